@@ -1,0 +1,25 @@
+//! Names, numbers, calls and replies of NFSv4.0 (RFC 7530), and the server that never moves.
+#![tactic(auto)]
+
+mod action;
+mod calls;
+mod instance;
+mod items;
+mod memory;
+mod numbers;
+mod rows;
+mod status;
+mod table;
+
+pub use action::{Action, CloseAction, OpenAction, Verb};
+pub use calls::{
+    Call, CloseArgs, Deed, Entry, Event, OpenArgs, OpenClaim, OpenHow, Opened, Owner, OwnerKind,
+    Recall, Recalls, Reply, ReplyValue, StateId, StateRef, Verdict,
+};
+pub use instance::{Instance, NameFault, Principal};
+pub use items::{Bytes, Items};
+pub use memory::{Memory, Refusal};
+pub use numbers::{Epoch, Era, FsNum, MoveNum, ServerNum};
+pub use rows::{FileRow, OpenRow};
+pub use status::OpStatus;
+pub use table::{HeldKind, HeldRow, HeldTable};
