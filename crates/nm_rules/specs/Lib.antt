@@ -1,3 +1,13 @@
 pub mod Actions
+pub mod Answer
+pub mod Checks
+pub mod Files
+pub mod Opens
+pub mod Owners
 pub mod Parties
+pub mod Past
+pub mod Seen
+pub mod Shares
 pub mod Statuses
+pub mod Sound
+pub mod Readings
