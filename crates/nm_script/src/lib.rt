@@ -5,6 +5,7 @@ mod memory;
 mod outside;
 mod report;
 mod script;
+mod text;
 
 pub use memory::{MemorySink, MemorySource};
 pub use outside::{Failed, ReadAllFault, Sink, Source, read_all, write_all};
@@ -13,3 +14,4 @@ pub use script::{
     ClientRow, ClientRows, FsRow, FsRows, Head, Line, Lines, Script, ScriptFault, ServerRow,
     ServerRows, Why,
 };
+pub use text::{append_line_text, fault_text, held_text, line_text, usage_text};
