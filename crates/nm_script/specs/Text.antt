@@ -1,5 +1,5 @@
 -- The printed text, and why a script is refused.
-use Rattle.std.specs.Prelude.{◌≡◌, ℕ, ◌==◌, List, [], ◌∷◌, ◌++◌, codes, decimal, flat_map, if◌then◌else◌}
+use Rattle.std.specs.Prelude.{ℕ, ◌==◌, List, [], ◌∷◌, ◌++◌, codes, decimal, flat_map, if◌then◌else◌}
 use Rattle.nm_rules.specs.declared.action.Verb.{Verb}
 use Rattle.nm_rules.specs.declared.action.Verb.TheVariants.{Open, Create, Close}
 use Rattle.nm_rules.specs.declared.status.OpStatus.{OpStatus}
@@ -12,7 +12,6 @@ use Rattle.nm_script.specs.declared.report.Told.TheVariants.{Answered, NoState}
 use Rattle.nm_script.specs.declared.report.OutcomeRow.{OutcomeRow}
 use Rattle.nm_script.specs.declared.report.PhaseNow.{PhaseNow}
 use Rattle.nm_script.specs.declared.report.PhaseNow.TheVariants.{At}
-use Rattle.nm_script.specs.declared.report.HeldReport.{HeldReport}
 use Rattle.nm_script.specs.declared.report.ReportRow.{ReportRow}
 use Rattle.nm_script.specs.declared.report.ReportRow.TheVariants.{Outcome, Held}
 use Rattle.nm_script.specs.declared.script.Why.{Why}

@@ -130,3 +130,89 @@ pub fn write_all<K: Sink>(sink: &mut K, bytes: &[u8]) -> Result<(), Failed>
     }
     Ok(())
 }
+
+#[cfg(test)]
+mod tests {
+    use super::*;
+    use crate::{MemorySink, MemorySource};
+    use std::test::Fail;
+
+    const TEXT: &[u8] = b"lease 90\n\nserver S1\n";
+
+    #[test]
+    fn pieces_of_any_size_give_the_same_text(rt: HostRuntime) -> Result<(), Fail> {
+        let alloc = rt.alloc();
+        for piece in [0, 1, 2, 7, 100] {
+            let mut source = MemorySource::new(alloc, TEXT, piece, &[])?;
+            let text = read_all(alloc, &mut source, 1000)?;
+            assert_eq!(rt; text.as_slice(), TEXT);
+            assert_eq!(rt; source.faults(), 0);
+        }
+        Ok(())
+    }
+
+    #[test]
+    fn a_source_is_read_for_one_byte_more_than_asked(rt: HostRuntime) -> Result<(), Fail> {
+        let alloc = rt.alloc();
+        for piece in [1, 2, 7] {
+            let mut source = MemorySource::new(alloc, TEXT, piece, &[])?;
+            assert_eq!(rt;
+                read_all(alloc, &mut source, 8)?.as_slice(),
+                b"lease 90\n".as_slice()
+            );
+            let mut source = MemorySource::new(alloc, TEXT, piece, &[])?;
+            assert_eq!(rt; read_all(alloc, &mut source, TEXT.len())?.as_slice(), TEXT);
+        }
+        Ok(())
+    }
+
+    #[test]
+    fn a_read_that_fails_is_no_end(rt: HostRuntime) -> Result<(), Fail> {
+        let alloc = rt.alloc();
+        for failing in [1, 2, 3] {
+            let mut source = MemorySource::new(alloc, TEXT, 7, &[failing])?;
+            assert!(rt;
+                matches!(
+                    &read_all(alloc, &mut source, 1000),
+                    Err(ReadAllFault::Failed)
+                )
+            );
+            assert_eq!(rt; source.faults(), 1);
+        }
+        Ok(())
+    }
+
+    #[test]
+    fn a_sink_may_take_a_byte_at_a_time(rt: HostRuntime) -> Result<(), Fail> {
+        let alloc = rt.alloc();
+        for piece in [0, 1, 2, 7, 100] {
+            let mut sink = MemorySink::new(alloc, piece, &[])?;
+            assert!(rt; write_all(&mut sink, TEXT).is_ok());
+            assert_eq!(rt; sink.held(), TEXT);
+            assert_eq!(rt; sink.faults(), 0);
+        }
+        Ok(())
+    }
+
+    #[test]
+    fn a_write_that_fails_leaves_the_front(rt: HostRuntime) -> Result<(), Fail> {
+        let alloc = rt.alloc();
+        let mut sink = MemorySink::new(alloc, 7, &[1])?;
+        assert_eq!(rt; write_all(&mut sink, TEXT), Err(Failed));
+        assert_eq!(rt; sink.held(), b"".as_slice());
+        assert_eq!(rt; sink.faults(), 1);
+        let mut sink = MemorySink::new(alloc, 7, &[2])?;
+        assert_eq!(rt; write_all(&mut sink, TEXT), Err(Failed));
+        assert_eq!(rt; sink.held(), b"lease 9".as_slice());
+        assert_eq!(rt; sink.faults(), 1);
+        Ok(())
+    }
+
+    #[test]
+    fn nothing_is_written_without_a_call(rt: HostRuntime) -> Result<(), Fail> {
+        let mut sink = MemorySink::new(rt.alloc(), 7, &[1])?;
+        assert!(rt; write_all(&mut sink, b"").is_ok());
+        assert_eq!(rt; sink.faults(), 0);
+        Ok(())
+    }
+}
