@@ -3,7 +3,7 @@ use Rattle.std.proofs.Common.{◌≡◌, ℕ, ◌+◌, ◌≤◌, List, [], ◌+
 use Rattle.std.proofs.Math.Seq.{take-add}
 use Rattle.std.proofs.lemmas.List.{take_at}
 use Rattle.std.proofs.lemmas.Simd.{chunk-drop}
-use Rattle.nm_script.specs.Outside.{behind, with_more, NoneLeft}
+use Rattle.nm_script.specs.Outside.{behind, with_more, NoneLeft, TookPart}
 
 -- nothing read yet
 pub behind-nothing : (told : Option (List ℕ)) → told ≡ behind [] told
@@ -18,6 +18,10 @@ behind-both first second (Some left) = ap Some (sym (append_assoc first second l
 -- a read after those that gave `text`
 pub next_read : (before so_far now : Option (List ℕ)) (text piece : List ℕ) → before ≡ behind text so_far → so_far ≡ behind piece now → before ≡ behind (text ++ piece) now
 next_read before so_far now text piece earlier latest = earlier ∙ ap (behind text) latest ∙ behind-both text piece now
+
+-- after both, a part is taken
+pub took_both : (before so_far now : Option (List ℕ)) (text piece : List ℕ) → before ≡ behind text so_far → so_far ≡ behind piece now → TookPart before now
+took_both before so_far now text piece earlier latest = record { taken = text ++ piece; front = next_read before so_far now text piece earlier latest }
 
 -- what a read of memory gave, and what is behind it
 pub read_splits : (bytes left piece : List ℕ) (at n : ℕ) → left ≡ drop at bytes → piece ≡ take n left → drop at bytes ≡ piece ++ drop (at + n) bytes

@@ -23,6 +23,11 @@ gave_end (Err _) _ = false
 abbrev pub HasRisen : ℕ → ℕ → Type 0
 HasRisen before now = min (before + 1) (2 ^ 64 - 1) ≤ now
 
+-- some bytes were taken, from the first on, and no other byte
+pub record TookPart (before now : Option (List ℕ)) : Type 0 where
+  pub taken : List ℕ
+  pub front : before ≡ behind taken now
+
 -- a part of these bytes, from the first on, was written, and no other byte
 pub record WrotePart (before now : Option (List ℕ)) (bytes : List ℕ) : Type 0 where
   pub count : ℕ

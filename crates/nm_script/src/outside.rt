@@ -1,6 +1,6 @@
 //! The outside: sources of bytes and sinks for them, which may fail and count how often they did.
 ghost use Rattle.std.specs.Prelude.{◌≡◌, ◌+◌, ◌^◌, ◌≤◌, ◌<◌, ◌-◌, min, ℕ, Bool, List, Option, ◌||◌, length, vec_len, take, IfOk, OnOk, OnErr, IfSome, IsTrue, IsErrOf};
-ghost use Rattle.nm_script.specs.Outside.{behind, with_more, NoneLeft, gave_end, HasRisen, WrotePart};
+ghost use Rattle.nm_script.specs.Outside.{behind, with_more, NoneLeft, gave_end, HasRisen, TookPart, WrotePart};
 ghost use Rattle.nm_script.specs.declared.outside.ReadAllFault.TheVariants.{Failed as SourceFailed, Memory as OutOfMemory};
 
 use std::alloc::{AllocError, Global};
@@ -85,9 +85,9 @@ fn room_for_a_read(alloc: Global) -> Result<Vec<u8>, AllocError>
 
 /// Reads a source to its end, or until it gave one byte more than `most`.
 ///
-/// `Failed` only where the source failed, and `Memory` where an allocation did. The bytes that were read before are
-/// then gone.
-#[tactic(auto, using(crate::proofs::OutsideLemmas::next_read, crate::proofs::OutsideLemmas::whole_is_front, crate::proofs::OutsideLemmas::full_is_front))]
+/// `Failed` only where the source failed, and `Memory` where an allocation did. Some bytes may then be taken from the
+/// source's front.
+#[tactic(auto, using(crate::proofs::OutsideLemmas::next_read, crate::proofs::OutsideLemmas::took_both, crate::proofs::OutsideLemmas::whole_is_front, crate::proofs::OutsideLemmas::full_is_front))]
 pub fn read_all<S: Source>(
     alloc: Global,
     source: &mut S,
@@ -98,6 +98,7 @@ pub fn read_all<S: Source>(
     ensures ended { IfOk result (λ text. length text.items ≤ most → IsTrue (S.ended source.new)) }
     ensures whole { IfOk result (λ text. length text.items ≤ most → NoneLeft (S.left source.new)) }
     ensures within { IfOk result (λ text. length text.items ≤ most + 1) }
+    ensures part { OnErr result (TookPart (S.left source.old) (S.left source.new)) }
     ensures failed { IsErrOf result SourceFailed → HasRisen (S.faults source.old) (S.faults source.new) }
     ensures count { S.faults source.old ≤ S.faults source.new }
 {
@@ -148,6 +149,21 @@ mod tests {
             assert_eq!(rt; text.as_slice(), TEXT);
             assert_eq!(rt; source.faults(), 0);
         }
+        Ok(())
+    }
+
+    #[test]
+    fn a_read_gives_a_piece_at_most(rt: HostRuntime) -> Result<(), Fail> {
+        let mut source = MemorySource::new(rt.alloc(), b"abcde", 2, &[2])?;
+        let mut buf = [0; 4];
+        assert_eq!(rt; source.read(&mut buf), Ok(2));
+        assert_eq!(rt; buf, [97, 98, 0, 0]);
+        assert_eq!(rt; source.read(&mut buf), Err(Failed));
+        assert_eq!(rt; source.read(&mut []), Ok(0));
+        assert_eq!(rt; source.read(&mut buf), Ok(2));
+        assert_eq!(rt; buf, [99, 100, 0, 0]);
+        assert_eq!(rt; source.read(&mut buf), Ok(1));
+        assert_eq!(rt; source.read(&mut buf), Ok(0));
         Ok(())
     }
 
