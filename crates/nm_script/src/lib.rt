@@ -1,11 +1,17 @@
 //! The script that the program runs, the text that it prints, and the outside that it reads from and writes to.
 #![tactic(auto)]
 
+mod memory;
+mod outside;
 mod report;
 mod script;
+mod text;
 
+pub use memory::{MemorySink, MemorySource};
+pub use outside::{Failed, ReadAllFault, Sink, Source, read_all, write_all};
 pub use report::{HeldReport, OutcomeRow, PhaseNow, Report, ReportRow, Told};
 pub use script::{
     ClientRow, ClientRows, FsRow, FsRows, Head, Line, Lines, Script, ScriptFault, ServerRow,
     ServerRows, Why,
 };
+pub use text::{append_line_text, fault_text, held_text, line_text, usage_text};
