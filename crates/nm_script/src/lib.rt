@@ -1,8 +1,11 @@
 //! The script that the program runs, the text that it prints, and the outside that it reads from and writes to.
 #![tactic(auto)]
 
+mod draft;
 mod report;
+mod run;
 mod script;
+mod words;
 
 pub use report::{HeldReport, OutcomeRow, PhaseNow, Report, ReportRow, Told};
 pub use script::{
