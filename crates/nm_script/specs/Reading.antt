@@ -124,8 +124,8 @@ open_action head f file acc den owner = do
   deny ← deny_at den
   fs ← file_system_number head f
   if is_file_name file && is_name owner
-    then Ok (record { fs = fs; file = file; access = access; deny = deny; owner = owner })
-    else Err why.Name
+      then Ok (record { fs = fs; file = file; access = access; deny = deny; owner = owner })
+      else Err why.Name
 
 unfoldable pub close_action : Head → List ℕ → List ℕ → List ℕ → Result CloseAction Why
 close_action head f file owner = do
@@ -175,8 +175,8 @@ unfoldable pub lease_at : Draft → List (List ℕ) → Result Draft Why
 lease_at d (_ ∷ word ∷ []) = do
   seconds ← number_at word
   if nat_le 1 seconds && nat_le seconds 3600
-    then Ok (record d { last = Some kind.Lease; head = record d.head { lease = seconds } })
-    else Err why.Number
+      then Ok (record d { last = Some kind.Lease; head = record d.head { lease = seconds } })
+      else Err why.Number
 lease_at d _ = Err why.Word
 
 -- a second server is refused
@@ -251,3 +251,54 @@ line_at d line =
 
 abbrev pub finished : Draft → Option Script
 finished d = if length d.head.servers == 0 then None else Some (record { head = d.head; lines = d.lines })
+
+-- ---- the lines of a source
+
+-- The bytes are split at line feeds. Behind the last line feed there is a line only where something stands.
+abbrev pub lines_of : List ℕ → List (List ℕ)
+lines_of [] = []
+lines_of (b ∷ bytes) = if b == 10 then [] ∷ lines_of bytes else onto_first b (lines_of bytes)
+
+-- the front that ends with the last line feed
+abbrev pub ended : List ℕ → List ℕ
+ended [] = []
+ended (b ∷ bytes) = if list_any (λ c. c == 10) (b ∷ bytes) then b ∷ ended bytes else []
+
+-- What a function on a source returned is what reading gives, unless memory ran out.
+abbrev pub IsFault : {X : Type 0} → ScriptFault → Result X ScriptFault → Type 0
+IsFault faults.Memory read = Unit {0}
+IsFault (faults.At line w) read = read ≡ Err (faults.At line w)
+
+abbrev pub Tells : {X : Type 0} → Result X ScriptFault → Result X ScriptFault → Type 0
+Tells (Ok x) read = read ≡ Ok x
+Tells (Err fault) read = IsFault fault read
+
+-- a fault of a line, with its number
+abbrev pub in_line : {X : Type 0} → ℕ → Result X Why → Result X ScriptFault
+in_line number (Ok x) = Ok x
+in_line number (Err w) = Err (faults.At number w)
+
+-- the line of that number, from 1: there are at most 4,000
+unfoldable pub counted_at : ℕ → Draft → List ℕ → Result Draft ScriptFault
+counted_at number d line = if nat_lt 4000 number then Err (faults.At number why.Limit) else in_line number (line_at d line)
+
+-- the lines in order, behind so many others
+unfoldable pub lines_at : ℕ → Draft → List (List ℕ) → Result (Draft × ℕ) ScriptFault
+lines_at count d [] = Ok (d, count)
+lines_at count d (line ∷ lines) = counted_at (count + 1) d line >>= λ e. lines_at (count + 1) e lines
+
+abbrev pub or_no_head : ℕ → Option Script → Result Script ScriptFault
+or_no_head count (Some s) = Ok s
+or_no_head count None = Err (faults.At (count + 1) why.Head)
+
+-- a source of at most 16 MiB
+unfoldable pub whole_at : List ℕ → Result Script ScriptFault
+whole_at bytes = lines_at 0 nothing_yet (lines_of bytes) >>= λ read. or_no_head read.1 (finished read.0)
+
+-- a longer one: the lines that end in its first 16 MiB are judged, and the next one is past the limit
+unfoldable pub cut_at : List ℕ → Result Script ScriptFault
+cut_at front = lines_at 0 nothing_yet (lines_of (ended front)) >>= λ read. Err (faults.At (read.1 + 1) why.Limit)
+
+-- The script of a source, or its first fault.
+unfoldable pub script_at : List ℕ → Result Script ScriptFault
+script_at bytes = if nat_lt (2 ^ 24) (length bytes) then cut_at (take (2 ^ 24) bytes) else whole_at bytes

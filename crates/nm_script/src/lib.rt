@@ -2,11 +2,13 @@
 #![tactic(auto)]
 
 mod draft;
+mod read;
 mod report;
 mod run;
 mod script;
 mod words;
 
+pub use read::read_script;
 pub use report::{HeldReport, OutcomeRow, PhaseNow, Report, ReportRow, Told};
 pub use script::{
     ClientRow, ClientRows, FsRow, FsRows, Head, Line, Lines, Script, ScriptFault, ServerRow,

@@ -128,12 +128,7 @@ fn close_action(
 
 /// An action by its verb and the words behind it.
 #[tactic(auto, unfolding(crate::specs::Reading::action_at))]
-fn action(
-    alloc: Global,
-    head: &Head,
-    verb: &[u8],
-    words: &[&[u8]],
-) -> Result<Action, LineFault>
+fn action(alloc: Global, head: &Head, verb: &[u8], words: &[&[u8]]) -> Result<Action, LineFault>
     ensures { Gives result (spec.action_at head.now verb.now (map (λ word. word.now) words.now)) }
 {
     match words {
