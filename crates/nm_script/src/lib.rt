@@ -1,14 +1,19 @@
 //! The script that the program runs, the text that it prints, and the outside that it reads from and writes to.
 #![tactic(auto)]
 
+mod draft;
 mod memory;
 mod outside;
+mod read;
 mod report;
+mod run;
 mod script;
 mod text;
+mod words;
 
 pub use memory::{MemorySink, MemorySource};
 pub use outside::{Failed, ReadAllFault, Sink, Source, read_all, write_all};
+pub use read::read_script;
 pub use report::{HeldReport, OutcomeRow, PhaseNow, Report, ReportRow, Told};
 pub use script::{
     ClientRow, ClientRows, FsRow, FsRows, Head, Line, Lines, Script, ScriptFault, ServerRow,

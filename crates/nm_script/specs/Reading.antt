@@ -1,0 +1,304 @@
+-- Reading a script from its first line to its last: the first fault, or what the lines say.
+use Rattle.std.specs.Prelude.{◌≡◌, ℕ, zero, suc, ◌+◌, ◌-◌, ◌*◌, ◌^◌, Bool, true, false, not, ◌&&◌, ◌||◌, ◌==◌, nat_lt, nat_le, List, [], ◌∷◌, ◌++◌, length, take, Option, Some, None, Result, Ok, Err, if◌then◌else◌, codes, position}
+use Rattle.std.specs.List.{list_all, list_any, slice_split, onto_first, suffix_len}
+use Rattle.std.specs.Str.{bytes_eq}
+use Rattle.nm_rules.specs.declared.action.Action.{Action}
+use Rattle.nm_rules.specs.declared.action.Action.TheVariants.{Open, Create, Close}
+use Rattle.nm_rules.specs.declared.action.OpenAction.{OpenAction}
+use Rattle.nm_rules.specs.declared.action.CloseAction.{CloseAction}
+use Rattle.nm_script.specs.declared.script.Head.{Head}
+use Rattle.nm_script.specs.declared.script.Line.{Line}
+use Rattle.nm_script.specs.declared.script.Line.TheVariants.{Do, Show}
+use Rattle.nm_script.specs.declared.script.Script.{Script}
+use Rattle.nm_script.specs.declared.script.ScriptFault.{ScriptFault}
+use Rattle.nm_script.specs.declared.script.ScriptFault.TheVariants as faults
+use Rattle.nm_script.specs.declared.script.Why.{Why}
+use Rattle.nm_script.specs.declared.script.Why.TheVariants as why
+use Rattle.nm_script.specs.declared.draft.Draft.{Draft}
+use Rattle.nm_script.specs.declared.draft.Kind.{Kind}
+use Rattle.nm_script.specs.declared.draft.Kind.TheVariants as kind
+use Rattle.nm_script.specs.declared.draft.LineFault.{LineFault}
+use Rattle.nm_script.specs.declared.draft.LineFault.TheVariants as line_faults
+use Rattle.nm_script.specs.Words.{words_of, is_printable, says_something, is_name, is_file_name, number_at, access_at, deny_at}
+
+infixl 10 ◌>>=◌
+abbrev pub ◌>>=◌ : {A B E : Type 0} → Result A E → (A → Result B E) → Result B E
+(Ok x) >>= f = f x
+(Err e) >>= f = Err e
+
+-- What a function on a line returned is what reading gives, unless memory ran out.
+abbrev pub Refuses : {X : Type 0} → LineFault → Result X Why → Type 0
+Refuses line_faults.Memory read = Unit {0}
+Refuses (line_faults.Bad w) read = read ≡ Err w
+
+abbrev pub Gives : {X : Type 0} → Result X LineFault → Result X Why → Type 0
+Gives (Ok x) read = read ≡ Ok x
+Gives (Err fault) read = Refuses fault read
+
+-- ---- which line may come next
+
+-- what a line is, by its first word
+unfoldable pub kind_of : List ℕ → Kind
+kind_of word =
+    if bytes_eq word (codes "nfsmove") then kind.Version else
+    if bytes_eq word (codes "lease") then kind.Lease else
+    if bytes_eq word (codes "server") then kind.Server else
+    if bytes_eq word (codes "fs") then kind.FileSystem else
+    if bytes_eq word (codes "client") then kind.Client else kind.Run
+
+abbrev pub first_kind : List (List ℕ) → Kind
+first_kind [] = kind.Run
+first_kind (first ∷ _) = kind_of first
+
+-- The head begins with one nfsmove, one lease and a server. Then servers, file systems, clients and lines that are
+-- run may come, in this order.
+unfoldable pub may_follow : Option Kind → Kind → Bool
+may_follow None kind.Version = true
+may_follow None _ = false
+may_follow (Some kind.Version) kind.Lease = true
+may_follow (Some kind.Version) _ = false
+may_follow (Some kind.Lease) kind.Server = true
+may_follow (Some kind.Lease) _ = false
+may_follow (Some kind.Server) kind.Version = false
+may_follow (Some kind.Server) kind.Lease = false
+may_follow (Some kind.Server) _ = true
+may_follow (Some kind.FileSystem) kind.FileSystem = true
+may_follow (Some kind.FileSystem) kind.Client = true
+may_follow (Some kind.FileSystem) kind.Run = true
+may_follow (Some kind.FileSystem) _ = false
+may_follow (Some kind.Client) kind.Client = true
+may_follow (Some kind.Client) kind.Run = true
+may_follow (Some kind.Client) _ = false
+may_follow (Some kind.Run) kind.Run = true
+may_follow (Some kind.Run) _ = false
+
+abbrev pub is_empty : List ℕ → Bool
+is_empty word = length word == 0
+
+abbrev pub has_empty_word : List (List ℕ) → Bool
+has_empty_word words = list_any is_empty words
+
+-- ---- names
+
+abbrev pub is_server : Head → List ℕ → Bool
+is_server head name = list_any (λ row. bytes_eq row.name name) head.servers
+
+abbrev pub is_file_system : Head → List ℕ → Bool
+is_file_system head name = list_any (λ row. bytes_eq row.name name) head.file_systems
+
+abbrev pub is_client : Head → List ℕ → Bool
+is_client head name = list_any (λ row. bytes_eq row.name name) head.clients
+
+-- a name of its form that names nothing yet
+unfoldable pub is_new_name : Head → List ℕ → Bool
+is_new_name head name = is_name name && not (is_server head name || is_file_system head name || is_client head name)
+
+unfoldable pub place_below : ℕ → Option ℕ → Result ℕ Why
+place_below limit None = Err why.Name
+place_below limit (Some place) = if nat_lt place limit then Ok place else Err why.Name
+
+abbrev pub server_place : Head → List ℕ → Option ℕ
+server_place head name = position (λ row. bytes_eq row.name name) head.servers
+
+abbrev pub file_system_place : Head → List ℕ → Option ℕ
+file_system_place head name = position (λ row. bytes_eq row.name name) head.file_systems
+
+abbrev pub client_place : Head → List ℕ → Option ℕ
+client_place head name = position (λ row. bytes_eq row.name name) head.clients
+
+-- the number of the server, the file system or the client of that name
+abbrev pub server_number : Head → List ℕ → Result ℕ Why
+server_number head name = place_below 16 (server_place head name)
+
+abbrev pub file_system_number : Head → List ℕ → Result ℕ Why
+file_system_number head name = place_below 64 (file_system_place head name)
+
+abbrev pub client_number : Head → List ℕ → Result ℕ Why
+client_number head name = place_below 64 (client_place head name)
+
+-- ---- lines that are run: the keywords come before the names
+
+unfoldable pub open_action : Head → List ℕ → List ℕ → List ℕ → List ℕ → List ℕ → Result OpenAction Why
+open_action head f file acc den owner = do
+  access ← access_at acc
+  deny ← deny_at den
+  fs ← file_system_number head f
+  if is_file_name file && is_name owner
+      then Ok (record { fs = fs; file = file; access = access; deny = deny; owner = owner })
+      else Err why.Name
+
+unfoldable pub close_action : Head → List ℕ → List ℕ → List ℕ → Result CloseAction Why
+close_action head f file owner = do
+  fs ← file_system_number head f
+  if is_file_name file && is_name owner then Ok (record { fs = fs; file = file; owner = owner }) else Err why.Name
+
+unfoldable pub action_at : Head → List ℕ → List (List ℕ) → Result Action Why
+action_at head verb (f ∷ file ∷ acc ∷ den ∷ owner ∷ []) =
+    if bytes_eq verb (codes "open") then (open_action head f file acc den owner >>= λ a. Ok (Open a)) else
+    if bytes_eq verb (codes "create") then (open_action head f file acc den owner >>= λ a. Ok (Create a)) else
+    Err why.Word
+action_at head verb (f ∷ file ∷ owner ∷ []) =
+    if bytes_eq verb (codes "close") then (close_action head f file owner >>= λ a. Ok (Close a)) else Err why.Word
+action_at head verb _ = Err why.Word
+
+unfoldable pub do_at : Head → List (List ℕ) → Result Line Why
+do_at head (c ∷ verb ∷ words) = do
+  action ← action_at head verb words
+  client ← client_number head c
+  Ok (Do client action)
+do_at head _ = Err why.Word
+
+unfoldable pub show_of : Head → List ℕ → Result Line Why
+show_of head f = file_system_number head f >>= λ fs. Ok (Show fs)
+
+unfoldable pub show_at : Head → List (List ℕ) → Result Line Why
+show_at head (f ∷ []) = show_of head f
+show_at head _ = Err why.Word
+
+unfoldable pub run_line : Head → List (List ℕ) → Result Line Why
+run_line head [] = Err why.Word
+run_line head (first ∷ words) =
+    if bytes_eq first (codes "do") then do_at head words else
+    if bytes_eq first (codes "show") then show_at head words else Err why.Word
+
+-- ---- what the lines so far say, with one more line
+
+abbrev pub nothing_yet : Draft
+nothing_yet = record { last = None; head = record { lease = 0; servers = []; file_systems = []; clients = [] }; lines = [] }
+
+unfoldable pub version_at : Draft → List (List ℕ) → Result Draft Why
+version_at d (_ ∷ version ∷ []) =
+    if bytes_eq version (codes "1") then Ok (record d { last = Some kind.Version }) else Err why.Word
+version_at d _ = Err why.Word
+
+unfoldable pub lease_at : Draft → List (List ℕ) → Result Draft Why
+lease_at d (_ ∷ word ∷ []) = do
+  seconds ← number_at word
+  if nat_le 1 seconds && nat_le seconds 3600
+      then Ok (record d { last = Some kind.Lease; head = record d.head { lease = seconds } })
+      else Err why.Number
+lease_at d _ = Err why.Word
+
+-- a second server is refused
+unfoldable pub with_server : Draft → List ℕ → Result Draft Why
+with_server d name =
+    if not (length d.head.servers == 0) then Err why.Word else
+    if is_new_name d.head name
+    then Ok (record d { last = Some kind.Server; head = record d.head { servers = d.head.servers ++ record { name = name } ∷ [] } })
+    else Err why.Name
+
+unfoldable pub server_at : Draft → List (List ℕ) → Result Draft Why
+server_at d (_ ∷ name ∷ []) = with_server d name
+server_at d _ = Err why.Word
+
+-- a second file system is refused
+unfoldable pub with_file_system : Draft → List ℕ → List ℕ → List ℕ → Result Draft Why
+with_file_system d name keyword server =
+    if not (length d.head.file_systems == 0) then Err why.Word else
+    if not (bytes_eq keyword (codes "at")) then Err why.Word else
+    if not (is_new_name d.head name) then Err why.Name else do
+      at ← server_number d.head server
+      Ok (record d { last = Some kind.FileSystem; head = record d.head { file_systems = d.head.file_systems ++ record { name = name; at = at } ∷ [] } })
+
+unfoldable pub file_system_at : Draft → List (List ℕ) → Result Draft Why
+file_system_at d (_ ∷ name ∷ keyword ∷ server ∷ []) =
+    with_file_system d name keyword server
+file_system_at d _ = Err why.Word
+
+unfoldable pub with_client : Draft → List ℕ → List ℕ → Result Draft Why
+with_client d name word =
+    if not (is_new_name d.head name) then Err why.Name else do
+      verifier ← number_at word
+      Ok (record d { last = Some kind.Client; head = record d.head { clients = d.head.clients ++ record { name = name; verifier = verifier } ∷ [] } })
+
+unfoldable pub client_at : Draft → List (List ℕ) → Result Draft Why
+client_at d (_ ∷ name ∷ word ∷ []) = with_client d name word
+client_at d _ = Err why.Word
+
+unfoldable pub run_at : Draft → List (List ℕ) → Result Draft Why
+run_at d words = do
+  line ← run_line d.head words
+  Ok (record d { last = Some kind.Run; lines = d.lines ++ line ∷ [] })
+
+abbrev pub kind_at : Kind → Draft → List (List ℕ) → Result Draft Why
+kind_at kind.Version d words = version_at d words
+kind_at kind.Lease d words = lease_at d words
+kind_at kind.Server d words = server_at d words
+kind_at kind.FileSystem d words = file_system_at d words
+kind_at kind.Client d words = client_at d words
+kind_at kind.Run d words = run_at d words
+
+unfoldable pub words_at : Draft → List (List ℕ) → Result Draft Why
+words_at d words =
+    if not (may_follow d.last (first_kind words)) then Err why.Head else
+    if has_empty_word words then Err why.Word else kind_at (first_kind words) d words
+
+abbrev pub is_client_kind : Kind → Bool
+is_client_kind kind.Client = true
+is_client_kind _ = false
+
+-- a client past the 64th
+unfoldable pub is_past_clients : Draft → List (List ℕ) → Bool
+is_past_clients d words =
+    not (nat_lt (length d.head.clients) 64) && is_client_kind (first_kind words) && may_follow d.last kind.Client
+
+unfoldable pub line_at : Draft → List ℕ → Result Draft Why
+line_at d line =
+    if nat_lt 4096 (length line) then Err why.Limit else
+    if is_past_clients d (words_of line) then Err why.Limit else
+    if not (is_printable line) then Err why.Bytes else
+    if says_something line then words_at d (words_of line) else Ok d
+
+abbrev pub finished : Draft → Option Script
+finished d = if length d.head.servers == 0 then None else Some (record { head = d.head; lines = d.lines })
+
+-- ---- the lines of a source
+
+-- The bytes are split at line feeds. Behind the last line feed there is a line only where something stands.
+abbrev pub lines_of : List ℕ → List (List ℕ)
+lines_of [] = []
+lines_of (b ∷ bytes) = if b == 10 then [] ∷ lines_of bytes else onto_first b (lines_of bytes)
+
+-- the front that ends with the last line feed
+abbrev pub ended : List ℕ → List ℕ
+ended [] = []
+ended (b ∷ bytes) = if list_any (λ c. c == 10) (b ∷ bytes) then b ∷ ended bytes else []
+
+-- What a function on a source returned is what reading gives, unless memory ran out.
+abbrev pub IsFault : {X : Type 0} → ScriptFault → Result X ScriptFault → Type 0
+IsFault faults.Memory read = Unit {0}
+IsFault (faults.At line w) read = read ≡ Err (faults.At line w)
+
+abbrev pub Tells : {X : Type 0} → Result X ScriptFault → Result X ScriptFault → Type 0
+Tells (Ok x) read = read ≡ Ok x
+Tells (Err fault) read = IsFault fault read
+
+-- a fault of a line, with its number
+abbrev pub in_line : {X : Type 0} → ℕ → Result X Why → Result X ScriptFault
+in_line number (Ok x) = Ok x
+in_line number (Err w) = Err (faults.At number w)
+
+-- the line of that number, from 1: there are at most 4,000
+unfoldable pub counted_at : ℕ → Draft → List ℕ → Result Draft ScriptFault
+counted_at number d line = if nat_lt 4000 number then Err (faults.At number why.Limit) else in_line number (line_at d line)
+
+-- the lines in order, behind so many others
+unfoldable pub lines_at : ℕ → Draft → List (List ℕ) → Result (Draft × ℕ) ScriptFault
+lines_at count d [] = Ok (d, count)
+lines_at count d (line ∷ lines) = counted_at (count + 1) d line >>= λ e. lines_at (count + 1) e lines
+
+abbrev pub or_no_head : ℕ → Option Script → Result Script ScriptFault
+or_no_head count (Some s) = Ok s
+or_no_head count None = Err (faults.At (count + 1) why.Head)
+
+-- a source of at most 16 MiB
+unfoldable pub whole_at : List ℕ → Result Script ScriptFault
+whole_at bytes = lines_at 0 nothing_yet (lines_of bytes) >>= λ read. or_no_head read.1 (finished read.0)
+
+-- a longer one: the lines that end in its first 16 MiB are judged, and the next one is past the limit
+unfoldable pub cut_at : List ℕ → Result Script ScriptFault
+cut_at front = lines_at 0 nothing_yet (lines_of (ended front)) >>= λ read. Err (faults.At (read.1 + 1) why.Limit)
+
+-- The script of a source, or its first fault.
+unfoldable pub script_at : List ℕ → Result Script ScriptFault
+script_at bytes = if nat_lt (2 ^ 24) (length bytes) then cut_at (take (2 ^ 24) bytes) else whole_at bytes

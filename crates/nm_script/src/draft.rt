@@ -1,0 +1,372 @@
+//! What the lines of a script say so far: its head in order, and then the lines that are run.
+ghost use Rattle.std.specs.Prelude.{◌≡◌, map};
+ghost use Rattle.nm_script.specs.Reading as spec;
+ghost use Rattle.nm_script.specs.Reading.{Gives};
+
+use crate::run::{run_line, server_number};
+use crate::words::{is_name, is_printable, is_word, number, says_something, words_of};
+use crate::{ClientRow, FsRow, Head, Lines, Script, ServerRow, Why};
+use nm_rules::{Bytes, Items, Memory};
+use std::alloc::Global;
+
+/// What a line is, by its first word: one of the head, or one that is run.
+#[derive(Clone, Copy, Debug, PartialEq, Eq)]
+pub(crate) enum Kind {
+    Version,
+    Lease,
+    Server,
+    FileSystem,
+    Client,
+    Run,
+}
+
+/// Why a line isn't taken.
+#[derive(Clone, Copy, Debug, PartialEq, Eq)]
+pub(crate) enum LineFault {
+    /// It is bad.
+    Bad(Why),
+    /// An allocation failed.
+    Memory,
+}
+
+impl From<Why> for LineFault {
+    ghost use Rattle.nm_script.specs.declared.draft.LineFault.TheVariants.{Bad};
+
+    ghost from_gives = { λ why fault. fault ≡ Bad why };
+
+    fn from(why: Why) -> Self {
+        LineFault::Bad(why)
+    }
+}
+
+impl From<Memory> for LineFault {
+    ghost use Rattle.nm_script.specs.declared.draft.LineFault.TheVariants.{Memory as OutOfMemory};
+
+    ghost from_gives = { λ _ fault. fault ≡ OutOfMemory };
+
+    fn from(_: Memory) -> Self {
+        LineFault::Memory
+    }
+}
+
+/// What a line is that begins with this word.
+#[tactic(auto, unfolding(crate::specs::Reading::kind_of))]
+fn kind_of(word: &[u8]) -> Kind
+    ensures { result ≡ spec.kind_of word.now }
+{
+    if is_word(word, b"nfsmove") {
+        return Kind::Version;
+    }
+    if is_word(word, b"lease") {
+        return Kind::Lease;
+    }
+    if is_word(word, b"server") {
+        return Kind::Server;
+    }
+    if is_word(word, b"fs") {
+        return Kind::FileSystem;
+    }
+    if is_word(word, b"client") {
+        return Kind::Client;
+    }
+    Kind::Run
+}
+
+fn first_kind(words: &[&[u8]]) -> Kind
+    ensures { result ≡ spec.first_kind (map (λ word. word.now) words.now) }
+{
+    match words {
+        [] => Kind::Run,
+        [first, ..] => kind_of(first),
+    }
+}
+
+/// Whether a line of that kind may stand behind the last one: the head has its order, each of its lines comes at
+/// least once up to `server`, and lines that are run come last.
+#[tactic(auto, unfolding(crate::specs::Reading::may_follow))]
+fn may_follow(last: Option<Kind>, next: Kind) -> bool
+    ensures { result ≡ spec.may_follow last next }
+{
+    match last {
+        None => matches!(next, Kind::Version),
+        Some(Kind::Version) => matches!(next, Kind::Lease),
+        Some(Kind::Lease) => matches!(next, Kind::Server),
+        Some(Kind::Server) => !matches!(next, Kind::Version | Kind::Lease),
+        Some(Kind::FileSystem) => matches!(next, Kind::FileSystem | Kind::Client | Kind::Run),
+        Some(Kind::Client) => matches!(next, Kind::Client | Kind::Run),
+        Some(Kind::Run) => matches!(next, Kind::Run),
+    }
+}
+
+fn has_empty_word(words: &[&[u8]]) -> bool
+    ensures { result ≡ spec.has_empty_word (map (λ word. word.now) words.now) }
+{
+    for word in words {
+        if word.is_empty() {
+            return true;
+        }
+    }
+    false
+}
+
+fn is_server(head: &Head, name: &[u8]) -> bool
+    ensures { result ≡ spec.is_server head.now name.now }
+{
+    let rows = head.servers.items();
+    rows.iter().any(|row| is_word(row.name.items(), name))
+}
+
+fn is_file_system(head: &Head, name: &[u8]) -> bool
+    ensures { result ≡ spec.is_file_system head.now name.now }
+{
+    let rows = head.file_systems.items();
+    rows.iter().any(|row| is_word(row.name.items(), name))
+}
+
+fn is_client(head: &Head, name: &[u8]) -> bool
+    ensures { result ≡ spec.is_client head.now name.now }
+{
+    let rows = head.clients.items();
+    rows.iter().any(|row| is_word(row.name.items(), name))
+}
+
+/// Whether a word has the form of a name, and names nothing yet.
+#[tactic(auto, unfolding(crate::specs::Reading::is_new_name))]
+fn is_new_name(head: &Head, name: &[u8]) -> bool
+    ensures { result ≡ spec.is_new_name head.now name.now }
+{
+    if !is_name(name) {
+        return false;
+    }
+    !(is_server(head, name) || is_file_system(head, name) || is_client(head, name))
+}
+
+/// What the lines so far say.
+#[derive(Debug, Drop)]
+pub(crate) struct Draft {
+    /// What the last line was that said something.
+    last: Option<Kind>,
+    head: Head,
+    lines: Lines,
+}
+
+impl Draft {
+    /// Nothing yet.
+    pub(crate) fn new(alloc: Global) -> Draft
+        ensures { result ≡ spec.nothing_yet }
+    {
+        Draft {
+            last: None,
+            head: Head {
+                lease: 0,
+                servers: Items::new(alloc),
+                file_systems: Items::new(alloc),
+                clients: Items::new(alloc),
+            },
+            lines: Items::new(alloc),
+        }
+    }
+
+    #[tactic(auto, unfolding(crate::specs::Reading::version_at))]
+    fn version(mut self, words: &[&[u8]]) -> Result<Draft, LineFault>
+        ensures { Gives result (spec.version_at self (map (λ word. word.now) words.now)) }
+    {
+        match words {
+            [_, version] => {
+                if !is_word(version, b"1") {
+                    return Err(LineFault::Bad(Why::Word));
+                }
+                self.last = Some(Kind::Version);
+                Ok(self)
+            }
+            _ => Err(LineFault::Bad(Why::Word)),
+        }
+    }
+
+    #[tactic(auto, unfolding(crate::specs::Reading::lease_at))]
+    fn lease(mut self, words: &[&[u8]]) -> Result<Draft, LineFault>
+        ensures { Gives result (spec.lease_at self (map (λ word. word.now) words.now)) }
+    {
+        match words {
+            [_, seconds] => {
+                let seconds = number(seconds)?;
+                if seconds == 0 || seconds > 3600 {
+                    return Err(LineFault::Bad(Why::Number));
+                }
+                self.last = Some(Kind::Lease);
+                self.head.lease = seconds as u32;
+                Ok(self)
+            }
+            _ => Err(LineFault::Bad(Why::Word)),
+        }
+    }
+
+    #[tactic(auto, unfolding(crate::specs::Reading::with_server))]
+    fn with_server(mut self, alloc: Global, name: &[u8]) -> Result<Draft, LineFault>
+        ensures { Gives result (spec.with_server self name.now) }
+    {
+        if !self.head.servers.items().is_empty() {
+            return Err(LineFault::Bad(Why::Word));
+        }
+        if !is_new_name(&self.head, name) {
+            return Err(LineFault::Bad(Why::Name));
+        }
+        let name = Bytes::from_slice(alloc, name)?;
+        self.head.servers.push(ServerRow { name })?;
+        self.last = Some(Kind::Server);
+        Ok(self)
+    }
+
+    #[tactic(auto, unfolding(crate::specs::Reading::server_at))]
+    fn server(self, alloc: Global, words: &[&[u8]]) -> Result<Draft, LineFault>
+        ensures { Gives result (spec.server_at self (map (λ word. word.now) words.now)) }
+    {
+        match words {
+            [_, name] => self.with_server(alloc, name),
+            _ => Err(LineFault::Bad(Why::Word)),
+        }
+    }
+
+    #[tactic(auto, unfolding(crate::specs::Reading::with_file_system))]
+    fn with_file_system(
+        mut self,
+        alloc: Global,
+        name: &[u8],
+        keyword: &[u8],
+        server: &[u8],
+    ) -> Result<Draft, LineFault>
+        ensures { Gives result (spec.with_file_system self name.now keyword.now server.now) }
+    {
+        if !self.head.file_systems.items().is_empty() {
+            return Err(LineFault::Bad(Why::Word));
+        }
+        if !is_word(keyword, b"at") {
+            return Err(LineFault::Bad(Why::Word));
+        }
+        if !is_new_name(&self.head, name) {
+            return Err(LineFault::Bad(Why::Name));
+        }
+        let at = server_number(&self.head, server)?;
+        let name = Bytes::from_slice(alloc, name)?;
+        self.head.file_systems.push(FsRow { name, at })?;
+        self.last = Some(Kind::FileSystem);
+        Ok(self)
+    }
+
+    #[tactic(auto, unfolding(crate::specs::Reading::file_system_at))]
+    fn file_system(self, alloc: Global, words: &[&[u8]]) -> Result<Draft, LineFault>
+        ensures { Gives result (spec.file_system_at self (map (λ word. word.now) words.now)) }
+    {
+        match words {
+            [_, name, keyword, server] => self.with_file_system(alloc, name, keyword, server),
+            _ => Err(LineFault::Bad(Why::Word)),
+        }
+    }
+
+    #[tactic(auto, unfolding(crate::specs::Reading::with_client))]
+    fn with_client(
+        mut self,
+        alloc: Global,
+        name: &[u8],
+        verifier: &[u8],
+    ) -> Result<Draft, LineFault>
+        ensures { Gives result (spec.with_client self name.now verifier.now) }
+    {
+        if !is_new_name(&self.head, name) {
+            return Err(LineFault::Bad(Why::Name));
+        }
+        let verifier = number(verifier)?;
+        let name = Bytes::from_slice(alloc, name)?;
+        self.head.clients.push(ClientRow { name, verifier })?;
+        self.last = Some(Kind::Client);
+        Ok(self)
+    }
+
+    #[tactic(auto, unfolding(crate::specs::Reading::client_at))]
+    fn client(self, alloc: Global, words: &[&[u8]]) -> Result<Draft, LineFault>
+        ensures { Gives result (spec.client_at self (map (λ word. word.now) words.now)) }
+    {
+        match words {
+            [_, name, verifier] => self.with_client(alloc, name, verifier),
+            _ => Err(LineFault::Bad(Why::Word)),
+        }
+    }
+
+    #[tactic(auto, unfolding(crate::specs::Reading::run_at))]
+    fn run(mut self, alloc: Global, words: &[&[u8]]) -> Result<Draft, LineFault>
+        ensures { Gives result (spec.run_at self (map (λ word. word.now) words.now)) }
+    {
+        let line = run_line(alloc, &self.head, words)?;
+        self.lines.push(line)?;
+        self.last = Some(Kind::Run);
+        Ok(self)
+    }
+
+    /// Takes the words of a line that says something.
+    #[tactic(auto, unfolding(crate::specs::Reading::words_at))]
+    fn take_words(self, alloc: Global, words: &[&[u8]]) -> Result<Draft, LineFault>
+        ensures { Gives result (spec.words_at self (map (λ word. word.now) words.now)) }
+    {
+        let kind = first_kind(words);
+        if !may_follow(self.last, kind) {
+            return Err(LineFault::Bad(Why::Head));
+        }
+        if has_empty_word(words) {
+            return Err(LineFault::Bad(Why::Word));
+        }
+        match kind {
+            Kind::Version => self.version(words),
+            Kind::Lease => self.lease(words),
+            Kind::Server => self.server(alloc, words),
+            Kind::FileSystem => self.file_system(alloc, words),
+            Kind::Client => self.client(alloc, words),
+            Kind::Run => self.run(alloc, words),
+        }
+    }
+
+    /// Whether these words are a client past the last one that is taken.
+    #[tactic(auto, unfolding(crate::specs::Reading::is_past_clients))]
+    fn is_past_clients(&self, words: &[&[u8]]) -> bool
+        ensures { result ≡ spec.is_past_clients self.now (map (λ word. word.now) words.now) }
+    {
+        if self.head.clients.items().len() < 64 {
+            return false;
+        }
+        let is_client = matches!(first_kind(words), Kind::Client);
+        is_client && may_follow(self.last, Kind::Client)
+    }
+
+    /// Takes one line, without its line feed.
+    #[tactic(auto, unfolding(crate::specs::Reading::line_at))]
+    pub(crate) fn take_line(self, alloc: Global, line: &[u8]) -> Result<Draft, LineFault>
+        ensures { Gives result (spec.line_at self line.now) }
+    {
+        if line.len() > 4096 {
+            return Err(LineFault::Bad(Why::Limit));
+        }
+        let words = words_of(alloc, line)?;
+        if self.is_past_clients(&words) {
+            return Err(LineFault::Bad(Why::Limit));
+        }
+        if !is_printable(line) {
+            return Err(LineFault::Bad(Why::Bytes));
+        }
+        if !says_something(line) {
+            return Ok(self);
+        }
+        self.take_words(alloc, &words)
+    }
+
+    /// The script, where the head is whole: where its server stood.
+    pub(crate) fn finish(self) -> Option<Script>
+        ensures { result ≡ spec.finished self }
+    {
+        if self.head.servers.items().is_empty() {
+            return None;
+        }
+        Some(Script {
+            head: self.head,
+            lines: self.lines,
+        })
+    }
+}

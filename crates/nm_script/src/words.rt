@@ -1,0 +1,144 @@
+//! The words of a line: where they stand, and the forms of names and numbers.
+ghost use Rattle.std.specs.Prelude.{◌≡◌, IfOk, map};
+ghost use Rattle.std.specs.Str.{bytes_eq};
+ghost use Rattle.nm_script.specs.Words as spec;
+
+use crate::Why;
+use nm_rules::Memory;
+use std::alloc::Global;
+
+/// The words of a line, which stand apart by one space. Two spaces have an empty word between them.
+#[tactic(auto, unfolding(crate::specs::Words::words_of))]
+pub(crate) fn words_of(alloc: Global, line: &[u8]) -> Result<Vec<&[u8]>, Memory>
+    ensures { IfOk result (λ words. map (λ word. word.now) words.items ≡ spec.words_of line.now) }
+{
+    Ok(line.split(|b| *b == b' ').collect(alloc)?)
+}
+
+/// Whether a word is that one.
+pub(crate) fn is_word(word: &[u8], keyword: &[u8]) -> bool
+    ensures { result ≡ bytes_eq word.now keyword.now }
+{
+    word == keyword
+}
+
+/// Whether each byte may stand in a line.
+pub(crate) fn is_printable(line: &[u8]) -> bool
+    ensures { result ≡ spec.is_printable line.now }
+{
+    line.iter().all(|b| (b' '..=b'~').contains(b))
+}
+
+/// Whether a line says something: an empty one and one that begins with `#` don't.
+pub(crate) fn says_something(line: &[u8]) -> bool
+    ensures { result ≡ spec.says_something line.now }
+{
+    match line {
+        [] => false,
+        [first, ..] => *first != b'#',
+    }
+}
+
+#[tactic(auto, unfolding(crate::specs::Words::is_name_byte))]
+fn is_name_byte(b: u8) -> bool
+    ensures { result ≡ spec.is_name_byte b }
+{
+    b.is_ascii_alphanumeric() || b == b'-' || b == b'_'
+}
+
+fn are_name_bytes(word: &[u8]) -> bool
+    ensures { result ≡ spec.are_name_bytes word.now }
+{
+    word.iter().all(|b| is_name_byte(*b))
+}
+
+fn are_file_bytes(word: &[u8]) -> bool
+    ensures { result ≡ spec.are_file_bytes word.now }
+{
+    word.iter().all(|b| is_name_byte(*b) || *b == b'.')
+}
+
+/// Whether a word has the form of a name: 1 to 16 letters, digits, `-` or `_`.
+#[tactic(auto, unfolding(crate::specs::Words::is_name))]
+pub(crate) fn is_name(word: &[u8]) -> bool
+    ensures { result ≡ spec.is_name word.now }
+{
+    if word.is_empty() || word.len() > 16 {
+        return false;
+    }
+    are_name_bytes(word)
+}
+
+/// Whether a word has the form of a file's name: 1 to 64 letters, digits, `-`, `_` or `.`, but not `.` or `..`.
+#[tactic(auto, unfolding(crate::specs::Words::is_file_name))]
+pub(crate) fn is_file_name(word: &[u8]) -> bool
+    ensures { result ≡ spec.is_file_name word.now }
+{
+    if word.is_empty() || word.len() > 64 {
+        return false;
+    }
+    if is_word(word, b".") || is_word(word, b"..") {
+        return false;
+    }
+    are_file_bytes(word)
+}
+
+/// The number so far with one more digit, where it is one and the number stays below 2^64.
+#[tactic(auto, unfolding(crate::specs::Words::with_digit))]
+fn with_digit(number: u64, digit: u8) -> Option<u64>
+    ensures { result ≡ spec.with_digit number digit }
+{
+    if !digit.is_ascii_digit() {
+        return None;
+    }
+    number.checked_mul(10)?.checked_add((digit - b'0') as u64)
+}
+
+fn digits(word: &[u8]) -> Option<u64>
+    ensures { result ≡ spec.digits_at 0 word.now }
+{
+    let mut number = 0;
+    for b in word {
+        number = with_digit(number, *b)?;
+    }
+    Some(number)
+}
+
+/// The number that a word spells: in decimal, below 2^64, with no sign and no leading zero.
+#[tactic(auto, unfolding(crate::specs::Words::number_at))]
+pub(crate) fn number(word: &[u8]) -> Result<u64, Why>
+    ensures { result ≡ spec.number_at word.now }
+{
+    if word.is_empty() || (word.len() > 1 && word[0] == b'0') {
+        return Err(Why::Number);
+    }
+    digits(word).ok_or(Why::Number)
+}
+
+/// The access of an open by its word.
+#[tactic(auto, unfolding(crate::specs::Words::access_at))]
+pub(crate) fn access(word: &[u8]) -> Result<u32, Why>
+    ensures { result ≡ spec.access_at word.now }
+{
+    if is_word(word, b"r") {
+        return Ok(1);
+    }
+    if is_word(word, b"w") {
+        return Ok(2);
+    }
+    if is_word(word, b"rw") {
+        return Ok(3);
+    }
+    Err(Why::Word)
+}
+
+/// What an open denies others by its word.
+#[tactic(auto, unfolding(crate::specs::Words::deny_at))]
+pub(crate) fn deny(word: &[u8]) -> Result<u32, Why>
+    ensures { result ≡ spec.deny_at word.now }
+{
+    if is_word(word, b"none") {
+        return Ok(0);
+    }
+    access(word)
+}
