@@ -1,6 +1,7 @@
 -- The tables of every legal list are sound, and show what stands.
 use Rattle.std.proofs.Common.{◌≡◌, ℕ, ◌+◌, Bool, true, false, cond, List, [], ◌∷◌, Option, Some, None, refl, ap, sym, subst, ◌∙◌, arith}
 use Rattle.std.specs.Prelude.{is_none, not, nat_le, ◌==◌, ◌-◌, ◌%◌, filter}
+use Rattle.std.proofs.lemmas.Bool.{not-false}
 use Rattle.nm_rules.specs.Parties.{Party, same_party}
 use Rattle.nm_rules.specs.Files.{file_at}
 use Rattle.nm_rules.specs.Shares.{open_at, open_of, opened_row, is_opposed, put_open, opens_after, OpenWord}
@@ -50,6 +51,16 @@ pub record StaysSound (last : ℕ) (rows : List OpenRow) : Type 0 where
   pub rising : rises 0 last rows ≡ true
   pub apart : all_apart rows ≡ true
 
+-- a counter is drawn just where the owner had no open of the file
+pub drew_new : (last : ℕ) (rows : List OpenRow) (owner : Owner) (file access deny : ℕ) → rises 0 last rows ≡ true
+    → (o : Option OpenRow) → open_of owner file rows ≡ o
+    → is_none (open_at (opened_row o (last + 1) file owner access deny).counter rows) ≡ is_none o
+unfolding opened_row
+drew_new last rows owner file access deny rising None none =
+    ap (λ (r : Option OpenRow). is_none r) (open_at-past 0 last rows (last + 1) rising (omega arith))
+drew_new last rows owner file access deny rising (Some row) found =
+    ap (λ (r : Option OpenRow). is_none r) (in-open_at 0 last rows row rising (open_of-in owner file rows row found).0).0
+
 pub opened_sound : (last : ℕ) (rows : List OpenRow) (owner : Owner) (file access deny : ℕ) → rises 0 last rows ≡ true → all_apart rows ≡ true
     → is_opposed owner file access deny rows ≡ false
     → (o : Option OpenRow) → open_of owner file rows ≡ o
@@ -86,21 +97,26 @@ open_never_repeats Pass false true c kept h = cc
 open_never_repeats Pass false false true kept h = cc
 open_never_repeats Pass false false false kept h = cc
 
-open_is_free : (v : Verdict) (a b c : Bool) → open_stop v a b c ≡ None → (b ≡ false) × (c ≡ false)
+open_is_free : (v : Verdict) (a b c : Bool) → open_stop v a b c ≡ None → (a ≡ false) × (b ≡ false) × (c ≡ false)
 unfolding open_stop
 open_is_free LeaseMoved a b c h = cc
 open_is_free Pass true b c h = cc
 open_is_free Pass false true c h = cc
 open_is_free Pass false false true h = cc
-open_is_free Pass false false false h = (refl, refl)
+open_is_free Pass false false false h = (refl, refl, refl)
 
--- an OPEN that nothing stops finds its name, or may make it, and no row opposes it
-pub open_goes : (s : Seen) (party : Party) (args : OpenArgs) (verdict : Verdict) → first (open_checks s (Some party) args verdict) ≡ None
-    → (finds_none s args ≡ false) × (is_opposed (opener party args) (file_to_open s args) args.access args.deny s.opens ≡ false)
+-- An OPEN that nothing stops asks for a share, finds its name or may make it, and no row opposes it.
+pub record GoesOpen (s : Seen) (party : Party) (args : OpenArgs) : Type 0 where
+  pub share : is_share args.access args.deny ≡ true
+  pub named : finds_none s args ≡ false
+  pub free : is_opposed (opener party args) (file_to_open s args) args.access args.deny s.opens ≡ false
+
+pub open_goes : (s : Seen) (party : Party) (args : OpenArgs) (verdict : Verdict) → first (open_checks s (Some party) args verdict) ≡ None → GoesOpen s party args
 unfolding open_checks open_stop
 open_goes s party args verdict h =
-    open_is_free verdict (not (is_share args.access args.deny)) (finds_none s args)
-    (is_opposed (opener party args) (file_to_open s args) args.access args.deny s.opens) h
+    let tests = open_is_free verdict (not (is_share args.access args.deny)) (finds_none s args)
+            (is_opposed (opener party args) (file_to_open s args) args.access args.deny s.opens) h in
+    record { share = not-false (is_share args.access args.deny) tests.0; named = tests.1; free = tests.2 }
 
 -- what stops a CLOSE of an open, from its tests
 close_stop : Verdict → Bool → Option Stop → Option Stop
@@ -205,7 +221,7 @@ pub sound_goes : (s : Seen) (caller : Option Party) (file : ℕ) (verdict : Verd
 unfolding is_done open_checks open_value close_value
 sound_goes s None file verdict (Open args) sound goes = cc
 sound_goes s (Some party) file verdict (Open args) sound goes =
-    sound_opened s party args sound (open_goes s party args verdict goes).1
+    sound_opened s party args sound (open_goes s party args verdict goes).free
 sound_goes s caller file verdict (Close args) sound goes = sound_closed s (open_named s args.stateid) sound
 
 -- an event that is answered keeps the tables sound

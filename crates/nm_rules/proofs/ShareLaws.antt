@@ -241,7 +241,7 @@ refused_leaves n owner file call verdict status before = by_deed call.caller cal
     by_deed (Some party) (Close args) = rw none_either_way refl
 
 -- the open that a stateid names is found by its counter
-named_is_live : (s : Seen) (id : StateRef) (row : OpenRow) → open_named s id ≡ Some row → open_at row.counter s.opens ≡ Some row
+pub named_is_live : (s : Seen) (id : StateRef) (row : OpenRow) → open_named s id ≡ Some row → open_at row.counter s.opens ≡ Some row
 unfolding open_named
 named_is_live s Zeros row found = cc
 named_is_live s Ones row found = cc
@@ -289,7 +289,7 @@ share_goes s (Some party) its_file verdict (Open args) owner file sound goes =
     ap (λ r. share_in owner file (put_open r s.opens))
     (same_row s.last s.opens (opener party args) (file_to_open s args) args.access args.deny sound.rising (open_of (opener party args) (file_to_open s args) s.opens) refl)
     ∙ share-put s.last s.opens (opener party args) (file_to_open s args) args.access args.deny owner file sound.rising sound.apart
-    (open_goes s party args verdict goes).1
+    (open_goes s party args verdict goes).free
 share_goes s None its_file verdict (Close args) owner file sound goes =
     closed_share s args (open_named s args.stateid) owner file sound (named_is_live s args.stateid)
 share_goes s (Some party) its_file verdict (Close args) owner file sound goes =

@@ -6,8 +6,9 @@ pub mod Opens
 pub mod Owners
 pub mod Parties
 pub mod Past
-pub mod Seen
-pub mod Shares
-pub mod Statuses
-pub mod Sound
 pub mod Readings
+pub mod Seen
+pub mod Seqids
+pub mod Shares
+pub mod Sound
+pub mod Statuses

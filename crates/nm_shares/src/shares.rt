@@ -2,6 +2,7 @@
 ghost use Rattle.std.specs.Prelude.{◌≡◌, ◌<◌, ◌^◌, ◌↔◌, ℕ, true, IsSome, IfSome, IfOk, OnOk, OnErr, option_copied};
 ghost use Rattle.nm_rules.specs.Shares.{open_at, is_opposed};
 ghost use Rattle.nm_rules.specs.Opens.{is_share};
+ghost use Rattle.nm_rules.specs.Sound.{rises};
 ghost use Rattle.nm_shares.specs.Rows.{no_opens, Tells, take_answer, after_take, after_close, closed_state};
 
 use crate::State;
@@ -47,7 +48,8 @@ impl Shares {
 
     /// The live opens, by rising counter.
     pub fn rows(&self) -> &[OpenRow]
-        ensures { result.now ≡ self.now.table }
+        ensures table { result.now ≡ self.now.table }
+        ensures rising { rises 0 self.now.last self.now.table ≡ true }
     {
         &self.rows
     }
@@ -64,6 +66,13 @@ impl Shares {
         ensures { option_copied result ≡ open_at counter self.now.table }
     {
         find_at(&self.rows, counter)
+    }
+
+    /// Whether another owner's open of the file conflicts with this share (RFC 7530, 9.9).
+    pub fn is_opposed(&self, owner: &Owner, file: u64, access: u32, deny: u32) -> bool
+        ensures { result ≡ is_opposed owner.now file access deny self.now.table }
+    {
+        opposed(&self.rows, owner, file, access, deny)
     }
 
     /// Opens a file for an owner, or joins what the owner has open there (RFC 7530, 16.16). `SHARE_DENIED` exactly

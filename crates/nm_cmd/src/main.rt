@@ -1,0 +1,7 @@
+//! The program `nfsmove`.
+#![tactic(auto)]
+
+mod file_system;
+mod tree;
+
+fn main() {}
