@@ -1,0 +1,65 @@
+-- The items of XDR (RFC 4506): the one spelling of each value, and the reading of each item.
+use Rattle.std.specs.Prelude.{◌≡◌, ℕ, zero, suc, ◌+◌, ◌-◌, ◌%◌, ◌<◌, ◌≤◌, ◌^◌, Bool, true, false, not, ◌==◌, nat_lt, nat_le, List, [], ◌∷◌, ◌++◌, length, take, drop, replicate, position, Option, Some, None, Result, Ok, Err, if◌then◌else◌}
+use Rattle.std.specs.List.{flat_map}
+use Rattle.byteorder.specs.Endian.{big_bytes, big_number}
+use Rattle.nm_xdr.specs.Fields.{Flaw, short, padding, bool, too_long, enum, Fault, Reading, ◌>>=◌, fault_at, field, made, tested, whole}
+
+-- ---- Spelling
+
+-- Four bytes, the highest first (sections 4.1 and 4.2; an enumeration's number too, section 4.3).
+unfoldable pub word : ℕ → List ℕ
+word n = big_bytes 4 n
+
+-- Eight bytes, the highest first (section 4.5).
+unfoldable pub hyper : ℕ → List ℕ
+hyper n = big_bytes 8 n
+
+-- The word 1 for true, and 0 for false (section 4.4).
+unfoldable pub flag : Bool → List ℕ
+flag b = word (if b then 1 else 0)
+
+-- How many zero bytes follow n bytes, up to a multiple of four (section 3).
+unfoldable pub padding_of : ℕ → ℕ
+padding_of n = (4 - n % 4) % 4
+
+-- Bytes whose number the layout fixes, and their padding (section 4.9).
+unfoldable pub fixed : List ℕ → List ℕ
+fixed bytes = bytes ++ replicate (padding_of (length bytes)) 0
+
+-- A length, the bytes and their padding (section 4.10).
+unfoldable pub opaque : List ℕ → List ℕ
+opaque bytes = word (length bytes) ++ fixed bytes
+
+-- ---- Reading
+
+-- The number in the next four bytes.
+unfoldable pub word_at : Reading ℕ
+word_at bytes = if nat_lt (length bytes) 4 then fault_at short bytes else Ok (big_number 4 bytes, drop 4 bytes)
+
+-- The number in the next eight bytes.
+unfoldable pub hyper_at : Reading ℕ
+hyper_at bytes = if nat_lt (length bytes) 8 then fault_at short bytes else Ok (big_number 8 bytes, drop 8 bytes)
+
+-- Whether the next word is 1, where it is 0 or 1.
+unfoldable pub flag_at : Reading Bool
+flag_at bytes = field (tested (λ n. nat_le n 1) bool word_at) (λ n. made (n == 1)) bytes
+
+-- by the place in the padding of a byte that isn't 0, where there is one
+abbrev pub padded_at : ℕ → List ℕ → Option ℕ → Result (List ℕ × List ℕ) Fault
+padded_at n bytes None = Ok (take n bytes, drop (n + padding_of n) bytes)
+padded_at n bytes (Some i) = fault_at padding (drop (n + i) bytes)
+
+-- n bytes whose padding is all 0. Where they or their padding end too soon, all of the item is missing.
+unfoldable pub fixed_at : ℕ → Reading (List ℕ)
+fixed_at n bytes =
+    if nat_lt (length bytes) (n + padding_of n) then fault_at short bytes
+    else padded_at n bytes (position (λ b. not (b == 0)) (take (padding_of n) (drop n bytes)))
+
+-- A word that is at most max: a length or a count.
+unfoldable pub length_at : ℕ → Reading ℕ
+length_at max = tested (λ n. nat_le n max) (λ n. too_long n max) word_at
+
+-- A length of at most max, and that many bytes with their padding.
+-- Where these end too soon, all of the item is missing: the fault is at its length.
+unfoldable pub opaque_at : ℕ → Reading (List ℕ)
+opaque_at max = whole (field (length_at max) fixed_at)
