@@ -67,6 +67,11 @@ unfoldable pub rows_at : {X : Type 0} → (List X → Reading X) → ℕ → Lis
 rows_at row zero earlier bytes = Ok (earlier, bytes)
 rows_at row (suc count) earlier bytes = row earlier bytes >>= λ x. rows_at row count (earlier ++ x.0 ∷ []) x.1
 
+-- A fact about each row, knowing the rows before it.
+abbrev pub EachAfter : {X : Type 0} → (List X → X → Type 0) → List X → List X → Type 0
+EachAfter Fits earlier [] = Unit {0}
+EachAfter Fits earlier (x ∷ xs) = Fits earlier x × EachAfter Fits (earlier ++ x ∷ []) xs
+
 -- ---- A reading and a spelling that belong together
 
 -- Bytes are numbers below 256.

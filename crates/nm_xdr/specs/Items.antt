@@ -1,8 +1,8 @@
 -- The items of XDR (RFC 4506): the one spelling of each value, and the reading of each item.
 use Rattle.std.specs.Prelude.{◌≡◌, ℕ, zero, suc, ◌+◌, ◌-◌, ◌%◌, ◌<◌, ◌≤◌, ◌^◌, Bool, true, false, not, ◌==◌, nat_lt, nat_le, List, [], ◌∷◌, ◌++◌, length, take, drop, replicate, position, Option, Some, None, Result, Ok, Err, if◌then◌else◌}
-use Rattle.std.specs.List.{flat_map}
+use Rattle.std.specs.List.{concat, flat_map}
 use Rattle.byteorder.specs.Endian.{big_bytes, big_number}
-use Rattle.nm_xdr.specs.Fields.{Flaw, short, padding, bool, too_long, enum, Fault, Reading, ◌>>=◌, fault_at, field, made, tested, whole}
+use Rattle.nm_xdr.specs.Fields.{Flaw, short, padding, bool, too_long, enum, Fault, Reading, ◌>>=◌, fault_at, field, made, tested, whole, rows_at}
 
 -- ---- Spelling
 
@@ -29,6 +29,23 @@ fixed bytes = bytes ++ replicate (padding_of (length bytes)) 0
 -- A length, the bytes and their padding (section 4.10).
 unfoldable pub opaque : List ℕ → List ℕ
 opaque bytes = word (length bytes) ++ fixed bytes
+
+-- A count and that many rows (section 4.13).
+abbrev pub counted : {X : Type 0} → (X → List ℕ) → List X → List ℕ
+counted row xs = word (length xs) ++ flat_map row xs
+
+-- The parts of a structure, in the order of their declaration (section 4.14).
+abbrev pub structure : List (List ℕ) → List ℕ
+structure parts = concat parts
+
+-- A discriminant, and the arm that it chooses (section 4.15).
+abbrev pub union : List ℕ → List ℕ → List ℕ
+union discriminant arm = discriminant ++ arm
+
+-- A flag that says whether there is a value, and the value (section 4.19).
+abbrev pub optional : {X : Type 0} → (X → List ℕ) → Option X → List ℕ
+optional value None = flag false
+optional value (Some x) = flag true ++ value x
 
 -- ---- Reading
 
@@ -63,3 +80,23 @@ length_at max = tested (λ n. nat_le n max) (λ n. too_long n max) word_at
 -- Where these end too soon, all of the item is missing: the fault is at its length.
 unfoldable pub opaque_at : ℕ → Reading (List ℕ)
 opaque_at max = whole (field (length_at max) fixed_at)
+
+-- A count of at most max, and that many rows, each read knowing those before it.
+unfoldable pub counted_at : {X : Type 0} → ℕ → (List X → Reading X) → Reading (List X)
+counted_at max row = field (length_at max) (λ n. rows_at row n [])
+
+abbrev pub present : {X : Type 0} → Reading X → Bool → Reading (Option X)
+present value false = made None
+present value true = field value (λ x. made (Some x))
+
+-- A flag, and where it is true a value.
+unfoldable pub optional_at : {X : Type 0} → Reading X → Reading (Option X)
+optional_at value = field flag_at (present value)
+
+abbrev pub named : {X : Type 0} → Option X → ℕ → List ℕ → List ℕ → Result (X × List ℕ) Fault
+named None n bytes rest = fault_at (enum n) bytes
+named (Some x) n bytes rest = Ok (x, rest)
+
+-- A word that is the number of one of the values of an enumeration, as `of` finds it (section 4.3).
+unfoldable pub enum_at : {X : Type 0} → (ℕ → Option X) → Reading X
+enum_at of bytes = word_at bytes >>= λ n. named (of n.0) n.0 bytes n.1

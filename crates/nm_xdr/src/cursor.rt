@@ -72,7 +72,7 @@ impl<'a> Cursor<'a> {
         Ok(number)
     }
 
-    #[tactic(auto, unfolding(crate::specs::Items::flag_at))]
+    #[tactic(auto, unfolding(crate::specs::Items::flag_at, crate::specs::Fields::field, crate::specs::Fields::tested, crate::specs::Fields::made))]
     pub fn take_bool(&mut self) -> Result<bool, XdrFault>
         ensures item { Gives (λ b. b) flag_at self.old result self.new }
         ensures unmoved { OnErr result (self.new ≡ self.old) }
@@ -106,7 +106,7 @@ impl<'a> Cursor<'a> {
         Ok(bytes)
     }
 
-    #[tactic(auto, unfolding(crate::specs::Items::opaque_at, crate::specs::Items::length_at))]
+    #[tactic(auto, unfolding(crate::specs::Items::opaque_at, crate::specs::Items::length_at, crate::specs::Fields::whole, crate::specs::Fields::field, crate::specs::Fields::tested))]
     pub fn take_opaque(&mut self, max: u32) -> Result<&'a [u8], XdrFault>
         ensures item { Gives (λ bytes. bytes.now) (opaque_at max) self.old result self.new }
         ensures unmoved { OnErr result (self.new ≡ self.old) }
