@@ -26,15 +26,20 @@ same_value {X} x y a b e =
 
 -- ---- A structure, field by field, from its end
 
--- Nothing is left: the value is made of the fields that were read.
-pub made_part : {S X : Type 0} {seen : X → S} (make : S → X) → ((x : X) → make (seen x) ≡ x) → ((s : S) → seen (make s) ≡ s)
-    → IsPart seen (λ s. made (make s)) (λ _. []) (λ _. Unit {0})
-made_part {S} {X} {seen} make back forth = record {
+-- Nothing is left: the value, one of some, is made of the fields that were read.
+pub made_where : {S X : Type 0} {seen : X → S} (make : S → X) (Some : X → Type 0) → ((x : X) → Some x → make (seen x) ≡ x)
+    → ((s : S) → Some (make s) × (seen (make s) ≡ s)) → IsPart seen (λ s. made (make s)) (λ _. []) Some
+made_where {S} {X} {seen} make Some back forth = record {
   found = λ s bytes x rest fits e.
       let same = same_value (make s) x bytes rest e in
-      (same.1, tt, ap seen (sym same.0) ∙ forth s);
-  again = λ x rest fits. rw (back x) refl;
+      (same.1, subst Some same.0 (forth s).0, ap seen (sym same.0) ∙ (forth s).1);
+  again = λ x rest fits. rw (back x fits) refl;
 }
+
+-- The same of any value.
+pub made_part : {S X : Type 0} {seen : X → S} (make : S → X) → ((x : X) → make (seen x) ≡ x) → ((s : S) → seen (make s) ≡ s)
+    → IsPart seen (λ s. made (make s)) (λ _. []) (λ _. Unit {0})
+made_part make back forth = made_where make (λ _. Unit {0}) (λ x _. back x) (λ s. (tt, forth s))
 
 -- A field, and what comes after it.
 pub field_part : {S A X : Type 0} {seen : X → S} (get : X → A) (more : S → A → Reading X) {read : S → Reading A} {spell : S → A → List ℕ} {Fits : S → A → Type 0}
@@ -209,26 +214,26 @@ rows_item {X} {row} {spell} {Fits} count item = record {
 }
 
 -- One more row was read: what is left of reading the rows.
-pub rows-next : {X : Type 0} (row : List X → Reading X) (count i : ℕ) (earlier : List X) (bytes : List ℕ) (x : X) (rest : List ℕ) → i < count
+pub rows_next : {X : Type 0} (row : List X → Reading X) (count i : ℕ) (earlier : List X) (bytes : List ℕ) (x : X) (rest : List ℕ) → i < count
     → row earlier bytes ≡ Ok (x, rest) → rows_at row (count - i) earlier bytes ≡ rows_at row (count - (i + 1)) (earlier ++ x ∷ []) rest
 unfolding rows_at
-rows-next row count i earlier bytes x rest lt e =
+rows_next row count i earlier bytes x rest lt e =
     let k : count - i ≡ suc (count - (i + 1)) = omega arith in
     rw (k, e) refl
 
 -- A row that isn't there: it is the fault of all of them.
-pub rows-fault : {X : Type 0} (row : List X → Reading X) (count i : ℕ) (earlier : List X) (bytes : List ℕ) (f : Fault) → i < count
+pub rows_fault : {X : Type 0} (row : List X → Reading X) (count i : ℕ) (earlier : List X) (bytes : List ℕ) (f : Fault) → i < count
     → row earlier bytes ≡ Err f → rows_at row (count - i) earlier bytes ≡ Err f
 unfolding rows_at
-rows-fault row count i earlier bytes f lt e =
+rows_fault row count i earlier bytes f lt e =
     let k : count - i ≡ suc (count - (i + 1)) = omega arith in
     rw (k, e) refl
 
 -- All rows were read.
-pub rows-done : {X : Type 0} (row : List X → Reading X) (count i : ℕ) (earlier : List X) (bytes : List ℕ) → count ≤ i
+pub rows_done : {X : Type 0} (row : List X → Reading X) (count i : ℕ) (earlier : List X) (bytes : List ℕ) → count ≤ i
     → rows_at row (count - i) earlier bytes ≡ Ok (earlier, bytes)
 unfolding rows_at
-rows-done row count i earlier bytes le =
+rows_done row count i earlier bytes le =
     let k : count - i ≡ 0 = omega arith in
     rw k refl
 

@@ -103,7 +103,7 @@ none_zero : (xs : List ℕ) → position (λ b. not (eqb b 0)) xs ≡ None → x
 none_zero xs e = all_zero xs (far (ltb (position_or_len (λ b. not (eqb b 0)) xs) (length xs)) refl e)
   where
     far : (t : Bool) → ltb (position_or_len (λ b. not (eqb b 0)) xs) (length xs) ≡ t
-      → cond t (Some (position_or_len (λ b. not (eqb b 0)) xs)) None ≡ None → length xs ≤ position_or_len (λ b. not (eqb b 0)) xs
+        → cond t (Some (position_or_len (λ b. not (eqb b 0)) xs)) None ≡ None → length xs ≤ position_or_len (λ b. not (eqb b 0)) xs
     far true is h = absurd cc
     far false is h = ltb-false _ _ is
 
@@ -134,32 +134,32 @@ pub fixed_item : (n : ℕ) → IsItem (fixed_at n) fixed (λ bytes. length bytes
 unfolding fixed_at fixed
 fixed_item n = record {
   found = λ bytes x rest fits e.
-    let pad = padding_of n in
-    let o = position (λ b. not (eqb b 0)) (take pad (drop n bytes)) in
-    let g = long_enough (ltb (length bytes) (n + pad)) (record { flaw = short; left = length bytes }) (padded_at n bytes o) (x, rest) e in
-    let long : n + pad ≤ length bytes = ltb-false _ _ g.0 in
-    let p = padded_found n bytes o x rest g.1 in
-    let len : length x ≡ n = omega (arith, ap length (sym p.1), length-take n bytes, long) in
-    let zeros : take pad (drop n bytes) ≡ replicate pad 0 =
+      let pad = padding_of n in
+      let o = position (λ b. not (eqb b 0)) (take pad (drop n bytes)) in
+      let g = long_enough (ltb (length bytes) (n + pad)) (record { flaw = short; left = length bytes }) (padded_at n bytes o) (x, rest) e in
+      let long : n + pad ≤ length bytes = ltb-false _ _ g.0 in
+      let p = padded_found n bytes o x rest g.1 in
+      let len : length x ≡ n = omega (arith, ap length (sym p.1), length-take n bytes, long) in
+      let zeros : take pad (drop n bytes) ≡ replicate pad 0 =
       none_zero (take pad (drop n bytes)) p.0 ∙ ap (λ (k : ℕ). replicate k 0) (omega (arith, length-take pad (drop n bytes), length-drop n bytes, long)) in
-    let behind : drop n bytes ≡ replicate pad 0 ++ rest =
+      let behind : drop n bytes ≡ replicate pad 0 ++ rest =
       sym (take-append-drop pad (drop n bytes)) ∙ ap (λ (z : List ℕ). z ++ drop pad (drop n bytes)) zeros ∙ ap (λ (r : List ℕ). replicate pad 0 ++ r) (drop-drop pad n bytes ∙ p.2) in
-    let parts : bytes ≡ (x ++ replicate pad 0) ++ rest =
+      let parts : bytes ≡ (x ++ replicate pad 0) ++ rest =
       sym (take-append-drop n bytes) ∙ ap (λ (f : List ℕ). f ++ drop n bytes) p.1 ∙ ap (λ (r : List ℕ). x ++ r) behind ∙ sym (append_assoc x (replicate pad 0) rest) in
-    (parts ∙ ap (λ (k : ℕ). (x ++ replicate (padding_of k) 0) ++ rest) (sym len), len);
+      (parts ∙ ap (λ (k : ℕ). (x ++ replicate (padding_of k) 0) ++ rest) (sym len), len);
   again = λ x rest fits.
-    let zeros = replicate (padding_of n) 0 in
-    let len-z : length zeros ≡ padding_of n = length-replicate {A = ℕ} (padding_of n) 0 in
-    let same : padding_of (length x) ≡ padding_of n = ap padding_of fits in
-    let parts : (x ++ zeros) ++ rest ≡ x ++ (zeros ++ rest) = append_assoc x zeros rest in
-    let long : ltb (length ((x ++ zeros) ++ rest)) (n + padding_of n) ≡ false =
+      let zeros = replicate (padding_of n) 0 in
+      let len-z : length zeros ≡ padding_of n = length-replicate {A = ℕ} (padding_of n) 0 in
+      let same : padding_of (length x) ≡ padding_of n = ap padding_of fits in
+      let parts : (x ++ zeros) ++ rest ≡ x ++ (zeros ++ rest) = append_assoc x zeros rest in
+      let long : ltb (length ((x ++ zeros) ++ rest)) (n + padding_of n) ≡ false =
       le-ltb _ _ (omega (arith, length-append (x ++ zeros) rest, length-append x zeros, len-z, fits)) in
-    let front : take n ((x ++ zeros) ++ rest) ≡ x = ap (take n) parts ∙ take_at x (zeros ++ rest) n fits in
-    let mid : drop n ((x ++ zeros) ++ rest) ≡ zeros ++ rest = ap (drop n) parts ∙ drop_at x (zeros ++ rest) n fits in
-    let pad : take (padding_of n) (drop n ((x ++ zeros) ++ rest)) ≡ zeros = ap (take (padding_of n)) mid ∙ take_at zeros rest (padding_of n) len-z in
-    let behind : drop (n + padding_of n) ((x ++ zeros) ++ rest) ≡ rest =
+      let front : take n ((x ++ zeros) ++ rest) ≡ x = ap (take n) parts ∙ take_at x (zeros ++ rest) n fits in
+      let mid : drop n ((x ++ zeros) ++ rest) ≡ zeros ++ rest = ap (drop n) parts ∙ drop_at x (zeros ++ rest) n fits in
+      let pad : take (padding_of n) (drop n ((x ++ zeros) ++ rest)) ≡ zeros = ap (take (padding_of n)) mid ∙ take_at zeros rest (padding_of n) len-z in
+      let behind : drop (n + padding_of n) ((x ++ zeros) ++ rest) ≡ rest =
       drop_at (x ++ zeros) rest (n + padding_of n) (omega (arith, length-append x zeros, len-z, fits)) in
-    rw (same, long, pad, zero_none (padding_of n), front, behind) refl;
+      rw (same, long, pad, zero_none (padding_of n), front, behind) refl;
 }
 
 -- A length of at most max, the bytes and their padding.
@@ -168,8 +168,8 @@ unfolding opaque_at opaque
 opaque_item max small =
     fits_as (λ bytes. length bytes ≤ max) (λ bytes le. (le, tt)) (λ bytes fits. fits.0)
     (whole_item (record_item (
-      field_part (λ (bytes : List ℕ). length bytes) _ (λ _. length_item max small) (
-      tail_part (λ _. Unit {0}) (λ s bytes len. (tt, ap (λ (n : ℕ). (tt, n)) len)) (λ _ _. refl) (λ s. fixed_item s.1)))))
+    field_part (λ (bytes : List ℕ). length bytes) _ (λ _. length_item max small) (
+    tail_part (λ _. Unit {0}) (λ s bytes len. (tt, ap (λ (n : ℕ). (tt, n)) len)) (λ _ _. refl) (λ s. fixed_item s.1)))))
 
 -- A count of at most max and its rows.
 pub counted_item : {X : Type 0} {row : List X → Reading X} {spell : X → List ℕ} {Fits : List X → X → Type 0} (max : ℕ) → max < 2 ^ 32
@@ -178,8 +178,8 @@ pub counted_item : {X : Type 0} {row : List X → Reading X} {spell : X → List
 unfolding counted_at
 counted_item {X} {row} {spell} {Fits} max small item =
     record_item (
-      field_part (λ (xs : List X). length xs) _ (λ _. length_item max small) (
-      tail_part (EachAfter Fits []) (λ s xs fits. (fits.0, ap (λ (n : ℕ). (tt, n)) fits.1)) (λ _ fits. (fits, refl)) (λ s. rows_item s.1 item)))
+    field_part (λ (xs : List X). length xs) _ (λ _. length_item max small) (
+    tail_part (EachAfter Fits []) (λ s xs fits. (fits.0, ap (λ (n : ℕ). (tt, n)) fits.1)) (λ _ fits. (fits, refl)) (λ s. rows_item s.1 item)))
 
 -- ---- A value that may be absent
 
@@ -201,10 +201,11 @@ present_item {X} {read} {spell} {Fits} item false =
     record { found = found_none; again = none_again }
   where
     found_none : (bytes : List ℕ) (o : Option X) (rest : List ℕ) → IsBytes bytes → made None bytes ≡ Ok (o, rest)
-      → (bytes ≡ present_spelling spell o ++ rest) × (IfSome o Fits × (is_some o ≡ false))
+        → (bytes ≡ present_spelling spell o ++ rest) × (IfSome o Fits × (is_some o ≡ false))
     found_none bytes o rest fits e =
-      let same = same_value None o bytes rest e in
-      subst (λ (v : Option X). (bytes ≡ present_spelling spell v ++ rest) × (IfSome v Fits × (is_some v ≡ false))) same.0 (same.1, (tt, refl))
+        let same = same_value None o bytes rest e in
+        subst (λ (v : Option X). (bytes ≡ present_spelling spell v ++ rest) × (IfSome v Fits × (is_some v ≡ false))) same.0 (same.1, (tt, refl))
+
     none_again : (o : Option X) (rest : List ℕ) → IfSome o Fits × (is_some o ≡ false) → made None (present_spelling spell o ++ rest) ≡ Ok (o, rest)
     none_again None rest h = refl
     none_again (Some x) rest h = absurd cc
@@ -232,9 +233,9 @@ pub enum_item : {X : Type 0} (number : X → ℕ) (of : ℕ → Option X) → ((
 unfolding enum_at
 enum_item {X} number of small back forth = record {
   found = λ bytes x rest fits e.
-    let b = bind_ok (word_at bytes) (λ (n : ℕ × List ℕ). named (of n.0) n.0 bytes n.1) (x, rest) e in
-    let first = word_item.found bytes b.0.0 b.0.1 fits b.1 in
-    let p = named_found (of b.0.0) b.0.0 bytes b.0.1 x rest b.2 in
-    (first.0 ∙ ap (λ (n : ℕ). word n ++ b.0.1) (sym (forth b.0.0 x p.0)) ∙ ap (λ (r : List ℕ). word (number x) ++ r) p.1, tt);
+      let b = bind_ok (word_at bytes) (λ (n : ℕ × List ℕ). named (of n.0) n.0 bytes n.1) (x, rest) e in
+      let first = word_item.found bytes b.0.0 b.0.1 fits b.1 in
+      let p = named_found (of b.0.0) b.0.0 bytes b.0.1 x rest b.2 in
+      (first.0 ∙ ap (λ (n : ℕ). word n ++ b.0.1) (sym (forth b.0.0 x p.0)) ∙ ap (λ (r : List ℕ). word (number x) ++ r) p.1, tt);
   again = λ x rest fits. rw (word_item.again (number x) rest (small x), back x) refl;
 }

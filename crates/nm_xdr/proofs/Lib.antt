@@ -1,2 +1,3 @@
 pub mod FieldLaws
 pub mod ItemLaws
+pub mod CutLaws

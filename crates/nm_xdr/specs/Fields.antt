@@ -1,5 +1,5 @@
--- Reading of bytes: the words that every layout is put together from, and what it is that a reading and a spelling belong together.
-use Rattle.std.specs.Prelude.{◌≡◌, ℕ, zero, suc, ◌<◌, ◌^◌, Bool, true, List, [], ◌∷◌, ◌++◌, length, slice_index, Result, Ok, Err, if◌then◌else◌}
+-- Reading of bytes: the words that every layout is put together from, and what it means that a reading and a spelling belong together.
+use Rattle.std.specs.Prelude.{◌≡◌, ◌≢◌, ℕ, zero, suc, ◌<◌, Bool, List, [], ◌∷◌, ◌++◌, length, slice_index, Result, Ok, Err, if◌then◌else◌}
 
 -- What is wrong at an item.
 pub data Flaw : Type 0 where
@@ -9,12 +9,12 @@ pub data Flaw : Type 0 where
   padding : Flaw
   -- the word of a flag is neither 0 nor 1
   bool : ℕ → Flaw
-  -- a length or a count, and the most that it may be
+  -- a length or a count, above the most that it may be
   too_long : ℕ → ℕ → Flaw
   -- a word that isn't among the numbers of its enumeration
   enum : ℕ → Flaw
 
--- What is wrong, and how many bytes are left from there to the end of the input.
+-- What is wrong, and how many bytes are left from where it is to the end of the input.
 pub record Fault : Type 0 where
   pub flaw : Flaw
   pub left : ℕ
@@ -23,14 +23,17 @@ pub record Fault : Type 0 where
 abbrev pub Reading : Type 0 → Type 0
 Reading X = List ℕ → Result (X × List ℕ) Fault
 
-infixl 10 ◌>>=◌
-abbrev pub ◌>>=◌ : {X Y : Type 0} → Result X Fault → (X → Result Y Fault) → Result Y Fault
-(Ok x) >>= f = f x
-(Err e) >>= f = Err e
-
--- A fault at the beginning of these bytes.
+-- A fault at the first of these bytes.
 abbrev pub fault_at : {X : Type 0} → Flaw → List ℕ → Result X Fault
 fault_at flaw bytes = Err (record { flaw = flaw; left = length bytes })
+
+-- What was read goes on to what is read after it; a fault stays.
+infixl 10 ◌>>=◌
+abbrev pub ◌>>=◌ : {X Y : Type 0} → Result X Fault → (X → Result Y Fault) → Result Y Fault
+(Ok x) >>= more = more x
+(Err f) >>= more = Err f
+
+-- ---- The words of a layout
 
 -- A field: its value is read, and what comes after it is read knowing that value.
 abbrev pub field : {X Y : Type 0} → Reading X → (X → Reading Y) → Reading Y
@@ -44,7 +47,12 @@ made x bytes = Ok (x, bytes)
 abbrev pub tested : {X : Type 0} → (X → Bool) → (X → Flaw) → Reading X → Reading X
 tested test flaw read bytes = read bytes >>= λ x. if test x.0 then Ok x else fault_at (flaw x.0) bytes
 
--- An item of several parts that ends too soon is missing as a whole: the fault is at its first byte, where `start` bytes were left.
+-- Rows, each read knowing the rows before it.
+unfoldable pub rows_at : {X : Type 0} → (List X → Reading X) → ℕ → List X → Reading (List X)
+rows_at row zero earlier bytes = Ok (earlier, bytes)
+rows_at row (suc count) earlier bytes = row earlier bytes >>= λ x. rows_at row count (earlier ++ x.0 ∷ []) x.1
+
+-- How many bytes are left at a fault in a part of an item from whose first byte `start` are left: one that ends too soon is missing from its first byte.
 abbrev pub left_of : Flaw → ℕ → ℕ → ℕ
 left_of short start left = start
 left_of padding start left = left
@@ -52,25 +60,18 @@ left_of (bool got) start left = left
 left_of (too_long got max) start left = left
 left_of (enum got) start left = left
 
+-- A fault in a part of an item, as a fault of the whole item.
 abbrev pub of_whole : ℕ → Fault → Fault
 of_whole start f = record { flaw = f.flaw; left = left_of f.flaw start f.left }
 
+-- What was read of an item, with its fault as one of the whole item.
 abbrev pub whole_from : {X : Type 0} → ℕ → Result X Fault → Result X Fault
 whole_from start (Ok x) = Ok x
 whole_from start (Err f) = Err (of_whole start f)
 
+-- An item of several parts that ends too soon is missing as a whole; any other fault is where it is.
 abbrev pub whole : {X : Type 0} → Reading X → Reading X
 whole read bytes = whole_from (length bytes) (read bytes)
-
--- Rows, each read knowing the rows before it.
-unfoldable pub rows_at : {X : Type 0} → (List X → Reading X) → ℕ → List X → Reading (List X)
-rows_at row zero earlier bytes = Ok (earlier, bytes)
-rows_at row (suc count) earlier bytes = row earlier bytes >>= λ x. rows_at row count (earlier ++ x.0 ∷ []) x.1
-
--- A fact about each row, knowing the rows before it.
-abbrev pub EachAfter : {X : Type 0} → (List X → X → Type 0) → List X → List X → Type 0
-EachAfter Fits earlier [] = Unit {0}
-EachAfter Fits earlier (x ∷ xs) = Fits earlier x × EachAfter Fits (earlier ++ x ∷ []) xs
 
 -- ---- A reading and a spelling that belong together
 
@@ -78,17 +79,26 @@ EachAfter Fits earlier (x ∷ xs) = Fits earlier x × EachAfter Fits (earlier ++
 abbrev pub IsBytes : List ℕ → Type 0
 IsBytes bytes = (i : ℕ) → slice_index bytes i < 256
 
--- What is read is spelled so and fits. What fits is read where it is spelled, whatever follows.
+-- What is read is spelled so, and fits. What fits is read where it is spelled, whatever follows.
 pub record IsItem {X : Type 0} (read : Reading X) (spell : X → List ℕ) (Fits : X → Type 0) : Type 0 where
   pub found : (bytes : List ℕ) (x : X) (rest : List ℕ) → IsBytes bytes → read bytes ≡ Ok (x, rest) → (bytes ≡ spell x ++ rest) × Fits x
   pub again : (x : X) (rest : List ℕ) → Fits x → read (spell x ++ rest) ≡ Ok (x, rest)
 
--- The same of the part of a structure that comes after some of its fields: `seen` has those fields, and reading knows them.
+-- The same of what comes after some fields of a structure: `seen` has their values, and reading knows them.
 pub record IsPart {S X : Type 0} (seen : X → S) (read : S → Reading X) (spell : X → List ℕ) (Fits : X → Type 0) : Type 0 where
   pub found : (s : S) (bytes : List ℕ) (x : X) (rest : List ℕ) → IsBytes bytes → read s bytes ≡ Ok (x, rest)
       → (bytes ≡ spell x ++ rest) × Fits x × (seen x ≡ s)
   pub again : (x : X) (rest : List ℕ) → Fits x → read (seen x) (spell x ++ rest) ≡ Ok (x, rest)
 
--- Of two values that fit, no spelling begins with the other's, but that of the same value.
+-- A fact about each row, knowing the rows before it.
+abbrev pub EachAfter : {X : Type 0} → (List X → X → Type 0) → List X → List X → Type 0
+EachAfter Fits earlier [] = Unit {0}
+EachAfter Fits earlier (x ∷ xs) = Fits earlier x × EachAfter Fits (earlier ++ x ∷ []) xs
+
+-- Where bytes begin with the spellings of two values, the values are one: no spelling is the beginning of another.
 abbrev pub OneSpelling : {X : Type 0} → (X → List ℕ) → (X → Type 0) → Type 0
 OneSpelling {X} spell Fits = (x y : X) (a b : List ℕ) → Fits x → Fits y → spell x ++ a ≡ spell y ++ b → (x ≡ y) × (a ≡ b)
+
+-- A spelling that is cut short is too short an item, from its first byte.
+abbrev pub IsShortWhereCut : {X : Type 0} → Reading X → (X → List ℕ) → (X → Type 0) → Type 0
+IsShortWhereCut {X} read spell Fits = (x : X) (front more : List ℕ) → Fits x → more ≢ [] → spell x ≡ front ++ more → read front ≡ fault_at short front

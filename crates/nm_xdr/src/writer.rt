@@ -9,7 +9,9 @@ use byteorder::{BigEndian, ByteOrder};
 use std::alloc::Global;
 use std::marker::Model;
 
-/// Bytes to which items are put one after the other.
+/// Bytes behind which items are put, one after the other.
+///
+/// Contracts see the bytes that were put so far. A put that answers Memory leaves them as they were.
 #[derive(Debug, Drop)]
 pub struct Writer {
     bytes: Vec<u8>,
@@ -24,6 +26,7 @@ impl Model for Writer {
 }
 
 impl Writer {
+    /// No bytes yet. Those to come are kept by this allocator.
     pub fn new(alloc: Global) -> Writer
         ensures { result ≡ [] }
     {
@@ -32,6 +35,7 @@ impl Writer {
         }
     }
 
+    /// All bytes that were put.
     pub fn finish(self) -> Vec<u8>
         ensures { result.items ≡ self }
     {
@@ -39,6 +43,9 @@ impl Writer {
         bytes
     }
 
+    /// Puts a number as 4 bytes, the highest first (RFC 4506, section 4.2).
+    ///
+    /// Memory where there is none for them.
     #[tactic(auto, unfolding(crate::specs::Items::word))]
     pub fn put_u32(&mut self, n: u32) -> Result<(), Memory>
         ensures ok { OnOk result (self.new ≡ self.old ++ word n) }
@@ -50,6 +57,9 @@ impl Writer {
         Ok(())
     }
 
+    /// Puts a number as 8 bytes, the highest first (RFC 4506, section 4.5).
+    ///
+    /// Memory where there is none for them.
     #[tactic(auto, unfolding(crate::specs::Items::hyper))]
     pub fn put_u64(&mut self, n: u64) -> Result<(), Memory>
         ensures ok { OnOk result (self.new ≡ self.old ++ hyper n) }
@@ -61,6 +71,9 @@ impl Writer {
         Ok(())
     }
 
+    /// Puts a flag as the number 1 or 0 (RFC 4506, section 4.4).
+    ///
+    /// Memory where there is none for its 4 bytes.
     #[tactic(auto, unfolding(crate::specs::Items::flag))]
     pub fn put_bool(&mut self, b: bool) -> Result<(), Memory>
         ensures ok { OnOk result (self.new ≡ self.old ++ flag b) }
@@ -69,6 +82,9 @@ impl Writer {
         self.put_u32(u32::from(b))
     }
 
+    /// Puts bytes, and the 0 to 3 zeros that pad them to a multiple of 4 (RFC 4506, section 4.9).
+    ///
+    /// Memory where there is none for all of these.
     #[tactic(auto, unfolding(crate::specs::Items::fixed))]
     pub fn put_fixed(&mut self, b: &[u8]) -> Result<(), Memory>
         ensures ok { OnOk result (self.new ≡ self.old ++ fixed b.now) }
@@ -81,6 +97,10 @@ impl Writer {
         Ok(())
     }
 
+    /// Puts the number of bytes, the bytes, and the 0 to 3 zeros that pad them to a multiple of 4 (RFC 4506,
+    /// section 4.10). There are fewer than 2^32 of them, since their number is a word.
+    ///
+    /// Memory where there is none for all of these.
     #[tactic(auto, unfolding(crate::specs::Items::opaque))]
     pub fn put_opaque(&mut self, b: &[u8]) -> Result<(), Memory>
         requires { length b.now < 2 ^ 32 }
