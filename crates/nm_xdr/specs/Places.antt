@@ -1,8 +1,8 @@
 -- Places. Reading tells a fault by how many bytes are left from there to the end of the input, and a cursor tells it by its place: how many bytes come before it.
-use Rattle.std.specs.Prelude.{◌≡◌, ℕ, ◌+◌, ◌-◌, ◌≤◌, List, length, drop, Result, Ok, Err}
+use Rattle.std.specs.Prelude.{◌≡◌, ◌≢◌, ℕ, ◌+◌, ◌-◌, ◌≤◌, List, ◌++◌, length, drop, Result, Ok, Err}
 use Rattle.nm_xdr.specs.declared.fault.XdrFault.{XdrFault}
 use Rattle.nm_xdr.specs.declared.fault.XdrFault.TheVariants as told
-use Rattle.nm_xdr.specs.Fields.{Flaw, short, padding, bool, too_long, enum, Fault, Reading}
+use Rattle.nm_xdr.specs.Fields.{Flaw, short, padding, bool, too_long, enum, Fault, Reading, IsBytes}
 
 -- Where a cursor stands: how many bytes of the input are before it, and the bytes from there on.
 pub record Spot : Type 0 where
@@ -42,3 +42,13 @@ Tells total e given = (given ≡ Err (fault_of total e)) × (place_of e ≤ tota
 abbrev pub Gives : {X Y : Type 0} → (X → Y) → Reading Y → Spot → Result X XdrFault → Spot → Type 0
 Gives view read from (Ok x) to = (read from.rest ≡ Ok (view x, to.rest)) × (end_of to ≡ end_of from)
 Gives view read from (Err e) to = Tells (end_of from) e (read from.rest)
+
+-- What such a call did: it went past exactly the spelling of the value that it answers, or it answers a fault, and the bytes begin with no spelling.
+abbrev pub WentPast : {X : Type 0} → (X → List ℕ) → (X → Type 0) → Spot → Result X XdrFault → Spot → Type 0
+WentPast spell Fits from (Ok x) to = Fits x × (from.rest ≡ spell x ++ to.rest) × (to.place ≡ from.place + length (spell x))
+WentPast {X} spell Fits from (Err e) to = (x : X) (rest : List ℕ) → Fits x → from.rest ≢ spell x ++ rest
+
+-- Every call that gives what this reading gives does that.
+abbrev pub IsExact : {X : Type 0} → Reading X → (X → List ℕ) → (X → Type 0) → Type 0
+IsExact {X} read spell Fits = (from to : Spot) (result : Result X XdrFault) → IsBytes from.rest → Gives (λ x. x) read from result to
+    → WentPast spell Fits from result to

@@ -2,6 +2,7 @@
 
 ghost use Rattle.std.specs.Prelude.{ℕ, ◌≡◌, ◌<◌, ◌≤◌, ◌^◌, ⊤, length, All, IfSome};
 ghost use Rattle.nm_xdr.specs.Fields.{IsItem, OneSpelling, IsShortWhereCut};
+ghost use Rattle.nm_xdr.specs.Places.{IsExact};
 ghost use Rattle.nm_xdr.specs.Items.{word, hyper, flag, fixed, opaque, counted, optional, word_at, hyper_at, flag_at, fixed_at, opaque_at, counted_at, optional_at};
 
 /// What is read of an item is spelled so, and what is spelled so is read, whatever follows.
@@ -13,7 +14,17 @@ pub fn items_are_read_as_spelled()
     ensures opaque { (max : ℕ) → max < 2 ^ 32 → IsItem (opaque_at max) opaque (λ bytes. length bytes ≤ max) }
 {}
 
-/// The same of counted rows and of a value that may be absent, here of words.
+/// A take answers a value exactly where the bytes from the cursor on begin with a spelling, and goes past
+/// exactly that spelling. This holds of every call that gives what these readings give, as the takes do.
+pub fn takes_are_exact()
+    ensures words { IsExact word_at word (λ n. n < 2 ^ 32) }
+    ensures hypers { IsExact hyper_at hyper (λ n. n < 2 ^ 64) }
+    ensures flags { IsExact flag_at flag (λ _. ⊤) }
+    ensures fixed { (n : ℕ) → IsExact (fixed_at n) fixed (λ bytes. length bytes ≡ n) }
+    ensures opaque { (max : ℕ) → max < 2 ^ 32 → IsExact (opaque_at max) opaque (λ bytes. length bytes ≤ max) }
+{}
+
+/// Counted rows and a value that may be absent are read as they are spelled too, here of words.
 pub fn rows_are_read_as_spelled()
     ensures rows { (max : ℕ) → max < 2 ^ 32 → IsItem (counted_at max (λ _. word_at)) (counted word)
         (λ xs. (length xs ≤ max) × All (λ n. n < 2 ^ 32) xs) }

@@ -33,5 +33,6 @@ pub use cursor::Cursor;
 pub use fault::{Memory, XdrFault};
 pub use laws::{
     cut_items_are_short, items_are_read_as_spelled, one_spelling, rows_are_read_as_spelled,
+    takes_are_exact,
 };
 pub use writer::Writer;
