@@ -1,10 +1,10 @@
 -- A spelling that is cut short is too short an item.
-use Rattle.std.proofs.Common.{◌≡◌, ◌≢◌, ℕ, zero, suc, ◌+◌, ◌-◌, ◌^◌, ◌≤◌, ◌<◌, Bool, true, false, cond, ltb, leb, List, [], ◌∷◌, ◌++◌, length, take, drop, replicate, Result, Ok, Err, refl, sym, ap, subst, ◌∙◌, append_assoc, arith, inl, inr}
-use Rattle.std.proofs.lemmas.Bool.{cases_lt, lt-ltb, le-leb}
-use Rattle.std.proofs.lemmas.List.{take-append-drop, take_at, drop_at, take-append-le, drop-append-le, length-append, length-drop, length-replicate}
+use Rattle.std.proofs.Common.{◌≡◌, ◌≢◌, ℕ, ◌+◌, ◌^◌, ◌≤◌, ◌<◌, true, cond, ltb, List, [], ◌∷◌, ◌++◌, length, take, drop, replicate, Ok, refl, sym, ap, ◌∙◌, arith, inl, inr}
+use Rattle.std.proofs.lemmas.Bool.{cases_lt, lt-ltb}
+use Rattle.std.proofs.lemmas.List.{take-append-drop, take_at, drop_at, take-append-le, drop-append-le, length-append, length-replicate}
 use Rattle.byteorder.specs.Endian.{big_bytes}
 use Rattle.byteorder.specs.Numbers.{length-bytes_high_first}
-use Rattle.nm_xdr.specs.Fields.{Flaw, short, Fault, Reading, ◌>>=◌, fault_at, field, tested, whole, whole_from, IsItem, IsShortWhereCut}
+use Rattle.nm_xdr.specs.Fields.{short, fault_at, field, whole, IsShortWhereCut}
 use Rattle.nm_xdr.specs.Items.{word, hyper, flag, padding_of, fixed, opaque, word_at, hyper_at, flag_at, fixed_at, length_at, opaque_at}
 use Rattle.nm_xdr.proofs.ItemLaws.{length_item}
 

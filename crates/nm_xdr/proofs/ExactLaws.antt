@@ -1,9 +1,8 @@
 -- What gives what reading an item gives goes past exactly its spelling.
-use Rattle.std.proofs.Common.{◌≡◌, ℕ, ◌+◌, List, ◌++◌, length, Result, Ok, Err, sym, ap, ◌∙◌, arith}
+use Rattle.std.proofs.Common.{◌≡◌, ℕ, List, length, Ok, Err, ap, ◌∙◌, arith}
 use Rattle.std.proofs.lemmas.List.{length-append}
-use Rattle.nm_xdr.specs.declared.fault.XdrFault.{XdrFault}
 use Rattle.nm_xdr.specs.Fields.{Reading, IsItem}
-use Rattle.nm_xdr.specs.Places.{Spot, end_of, fault_of, Gives, WentPast, IsExact}
+use Rattle.nm_xdr.specs.Places.{end_of, fault_of, IsExact}
 
 pub exact_of : {X : Type 0} {read : Reading X} {spell : X → List ℕ} {Fits : X → Type 0} → IsItem read spell Fits → IsExact read spell Fits
 exact_of {X} {read} {spell} {Fits} item from to (Ok x) bytes gives =

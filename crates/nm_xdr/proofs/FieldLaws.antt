@@ -1,8 +1,8 @@
 -- One line for each field: how a reading and a spelling that belong together are put together.
-use Rattle.std.proofs.Common.{◌≡◌, ℕ, zero, suc, ◌+◌, ◌-◌, ◌≤◌, ◌<◌, Bool, true, false, cond, List, [], ◌∷◌, ◌++◌, length, get_or, Result, Ok, Err, refl, sym, ap, subst, ◌∙◌, append_assoc, arith}
-use Rattle.std.proofs.lemmas.List.{append-nil, append_cancel_left, get_or-append-add}
+use Rattle.std.proofs.Common.{◌≡◌, ℕ, zero, suc, ◌+◌, ◌-◌, ◌≤◌, ◌<◌, Bool, true, false, cond, List, [], ◌∷◌, ◌++◌, length, Result, Ok, Err, refl, sym, ap, subst, ◌∙◌, append_assoc, arith}
+use Rattle.std.proofs.lemmas.List.{append-nil, get_or-append-add}
 use Rattle.std.specs.List.{flat_map, AllByRecursion}
-use Rattle.nm_xdr.specs.Fields.{Flaw, Fault, Reading, ◌>>=◌, field, made, tested, of_whole, whole_from, whole, rows_at, EachAfter, IsBytes, IsItem, IsPart, OneSpelling}
+use Rattle.nm_xdr.specs.Fields.{Flaw, Fault, Reading, ◌>>=◌, field, made, tested, whole_from, whole, rows_at, ended, all_of, EachAfter, IsBytes, IsItem, IsPart, OneSpelling}
 
 -- what stands behind bytes are bytes
 pub IsBytes-behind : (front rest : List ℕ) → IsBytes (front ++ rest) → IsBytes rest
@@ -259,3 +259,23 @@ pub reads_longer : {X : Type 0} {read : Reading X} {spell : X → List ℕ} {Fit
 reads_longer {X} {read} {spell} {Fits} item bytes x rest more fits e =
     let p = item.found bytes x rest fits e in
     ap (λ (b : List ℕ). read (b ++ more)) p.0 ∙ ap read (append_assoc (spell x) rest more) ∙ item.again x (rest ++ more) p.1
+
+-- Where nothing was left over, nothing was.
+ended_found : {X : Type 0} (x y : X) (rest : List ℕ) → ended x rest ≡ Ok y → (x ≡ y) × (rest ≡ [])
+ended_found x y [] e = (cc, refl)
+ended_found x y (b ∷ rest) e = absurd cc
+
+-- What is read of all bytes is spelled by them, and fits.
+pub all_found : {X : Type 0} {read : Reading X} {spell : X → List ℕ} {Fits : X → Type 0} → IsItem read spell Fits
+    → (bytes : List ℕ) (x : X) → IsBytes bytes → all_of read bytes ≡ Ok x → (bytes ≡ spell x) × Fits x
+all_found {X} {read} {spell} {Fits} item bytes x fits e =
+    let b = bind_ok (read bytes) (λ (v : X × List ℕ). ended v.0 v.1) x e in
+    let p = item.found bytes b.0.0 b.0.1 fits b.1 in
+    let q = ended_found b.0.0 x b.0.1 b.2 in
+    (p.0 ∙ ap (λ (r : List ℕ). spell b.0.0 ++ r) q.1 ∙ append-nil (spell b.0.0) ∙ ap spell q.0, subst Fits q.0 p.1)
+
+-- What fits is read of its spelling, all of it.
+pub all_again : {X : Type 0} {read : Reading X} {spell : X → List ℕ} {Fits : X → Type 0} → IsItem read spell Fits → (x : X) → Fits x → all_of read (spell x) ≡ Ok x
+all_again {X} {read} {spell} {Fits} item x fits =
+    ap (λ (bytes : List ℕ). all_of read bytes) (sym (append-nil (spell x)))
+    ∙ ap (λ (r : Result (X × List ℕ) Fault). r >>= λ v. ended v.0 v.1) (item.again x [] fits)

@@ -1,14 +1,14 @@
 -- Each item's reading and spelling belong together.
-use Rattle.std.proofs.Common.{◌≡◌, ℕ, zero, suc, ◌+◌, ◌-◌, ◌*◌, ◌%◌, ◌^◌, ◌≤◌, ◌<◌, Bool, true, false, not, cond, eqb, ltb, leb, List, [], ◌∷◌, ◌++◌, length, get_or, take, drop, replicate, Option, Some, None, Result, Ok, Err, refl, sym, ap, subst, ◌∙◌, append_assoc, arith, inl, inr}
-use Rattle.std.specs.List.{position, position_or_len, flat_map}
+use Rattle.std.proofs.Common.{◌≡◌, ℕ, zero, suc, ◌+◌, ◌^◌, ◌≤◌, ◌<◌, Bool, true, false, not, cond, eqb, ltb, leb, List, [], ◌∷◌, ◌++◌, length, take, drop, replicate, Option, Some, None, Result, Ok, Err, refl, sym, ap, subst, ◌∙◌, append_assoc, arith, inl, inr}
+use Rattle.std.specs.List.{position, position_or_len}
 use Rattle.std.specs.Prelude.{IfSome, is_some}
 use Rattle.std.specs.Int.{w32, w64, from_be_bytes}
 use Rattle.std.proofs.lemmas.Bool.{cases_lt, ltb-false, le-ltb, leb-true, le-leb, ne_eqb}
-use Rattle.std.proofs.lemmas.List.{append-nil, take_at, drop_at, take-append-drop, length-append, length-take, length-drop, get_or-drop, get_or-take, get_or_past, length-replicate, drop-drop}
+use Rattle.std.proofs.lemmas.List.{append-nil, take_at, drop_at, take-append-drop, length-append, length-take, length-drop, get_or-take, get_or_past, length-replicate, drop-drop}
 use Rattle.std.proofs.lemmas.Nat.{be_bytes_4, be_bytes_8}
-use Rattle.byteorder.specs.Endian.{big_bytes, big_number, big_from}
+use Rattle.byteorder.specs.Endian.{big_bytes, big_number}
 use Rattle.byteorder.specs.Numbers.{big_from-take, big_from-lt, big_number-reads_back, length-bytes_high_first}
-use Rattle.nm_xdr.specs.Fields.{Flaw, short, padding, bool, too_long, enum, Fault, Reading, ◌>>=◌, field, made, tested, EachAfter, IsBytes, IsItem, IsPart}
+use Rattle.nm_xdr.specs.Fields.{short, bool, too_long, Fault, Reading, made, EachAfter, IsBytes, IsItem}
 use Rattle.nm_xdr.specs.Items.{word, hyper, flag, padding_of, fixed, opaque, counted, optional, word_at, hyper_at, flag_at, padded_at, fixed_at, length_at, opaque_at, counted_at, present, optional_at, named, enum_at}
 use Rattle.nm_xdr.proofs.FieldLaws.{field_part, tail_part, record_item, tested_item, whole_item, fits_as, spelled_as, made_item, union_item, rows_item, same_value, bind_ok}
 

@@ -1,8 +1,8 @@
 -- The items of XDR (RFC 4506): the one spelling of each value, and the reading of each item.
-use Rattle.std.specs.Prelude.{◌≡◌, ℕ, zero, suc, ◌+◌, ◌-◌, ◌%◌, ◌<◌, ◌≤◌, ◌^◌, Bool, true, false, not, ◌==◌, nat_lt, nat_le, List, [], ◌∷◌, ◌++◌, length, take, drop, replicate, position, Option, Some, None, Result, Ok, Err, if◌then◌else◌}
+use Rattle.std.specs.Prelude.{ℕ, ◌+◌, ◌-◌, ◌%◌, Bool, true, false, not, ◌==◌, nat_lt, nat_le, List, [], ◌++◌, length, take, drop, replicate, position, Option, Some, None, Result, Ok, if◌then◌else◌}
 use Rattle.std.specs.List.{concat, flat_map}
 use Rattle.byteorder.specs.Endian.{big_bytes, big_number}
-use Rattle.nm_xdr.specs.Fields.{Flaw, short, padding, bool, too_long, enum, Fault, Reading, ◌>>=◌, fault_at, field, made, tested, whole, rows_at}
+use Rattle.nm_xdr.specs.Fields.{short, padding, bool, too_long, enum, Fault, Reading, ◌>>=◌, fault_at, field, made, tested, whole, rows_at}
 
 -- ---- Spelling
 

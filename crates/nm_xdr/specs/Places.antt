@@ -2,7 +2,7 @@
 use Rattle.std.specs.Prelude.{◌≡◌, ◌≢◌, ℕ, ◌+◌, ◌-◌, ◌≤◌, List, ◌++◌, length, drop, Result, Ok, Err}
 use Rattle.nm_xdr.specs.declared.fault.XdrFault.{XdrFault}
 use Rattle.nm_xdr.specs.declared.fault.XdrFault.TheVariants as told
-use Rattle.nm_xdr.specs.Fields.{Flaw, short, padding, bool, too_long, enum, Fault, Reading, IsBytes}
+use Rattle.nm_xdr.specs.Fields.{short, padding, bool, too_long, enum, Fault, Reading, IsBytes}
 
 -- Where a cursor stands: how many bytes of the input are before it, and the bytes from there on.
 pub record Spot : Type 0 where

@@ -1,4 +1,4 @@
-use Rattle.std.proofs.Common.{ℕ, ◌<◌, ◌≤◌, ◌^◌, List, [], length, All}
+use Rattle.std.proofs.Common.{◌<◌, ◌≤◌, ◌^◌, [], length, All}
 use Rattle.std.proofs.lemmas.List.Elements.{All-from_recursion, recursion_from_All}
 use Rattle.nm_xdr.proofs.FieldLaws.{fits_as, each_fits, each_fits_after}
 use Rattle.nm_xdr.proofs.ItemLaws.{word_item, counted_item, optional_item}
