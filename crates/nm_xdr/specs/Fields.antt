@@ -52,6 +52,7 @@ unfoldable pub rows_at : {X : Type 0} → (List X → Reading X) → ℕ → Lis
 rows_at row zero earlier bytes = Ok (earlier, bytes)
 rows_at row (suc count) earlier bytes = row earlier bytes >>= λ x. rows_at row count (earlier ++ x.0 ∷ []) x.1
 
+-- A value with nothing left over.
 abbrev pub ended : {X : Type 0} → X → List ℕ → Result X Fault
 ended x [] = Ok x
 ended x (b ∷ rest) = fault_at (too_long (length (b ∷ rest)) 0) (b ∷ rest)
@@ -60,7 +61,7 @@ ended x (b ∷ rest) = fault_at (too_long (length (b ∷ rest)) 0) (b ∷ rest)
 abbrev pub all_of : {X : Type 0} → Reading X → List ℕ → Result X Fault
 all_of read bytes = read bytes >>= λ x. ended x.0 x.1
 
--- How many bytes are left at a fault in a part of an item from whose first byte `start` are left: one that ends too soon is missing from its first byte.
+-- Where the fault of a part lies in an item at whose first byte `start` bytes are left: what ends too soon is missing from there.
 abbrev pub left_of : Flaw → ℕ → ℕ → ℕ
 left_of short start left = start
 left_of padding start left = left

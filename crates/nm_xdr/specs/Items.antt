@@ -61,7 +61,7 @@ hyper_at bytes = if nat_lt (length bytes) 8 then fault_at short bytes else Ok (b
 unfoldable pub flag_at : Reading Bool
 flag_at bytes = field (tested (λ n. nat_le n 1) bool word_at) (λ n. made (n == 1)) bytes
 
--- by the place in the padding of a byte that isn't 0, where there is one
+-- n bytes, by where in their padding the first byte stands that isn't 0.
 abbrev pub padded_at : ℕ → List ℕ → Option ℕ → Result (List ℕ × List ℕ) Fault
 padded_at n bytes None = Ok (take n bytes, drop (n + padding_of n) bytes)
 padded_at n bytes (Some i) = fault_at padding (drop (n + i) bytes)
@@ -85,6 +85,7 @@ opaque_at max = whole (field (length_at max) fixed_at)
 unfoldable pub counted_at : {X : Type 0} → ℕ → (List X → Reading X) → Reading (List X)
 counted_at max row = field (length_at max) (λ n. rows_at row n [])
 
+-- The value that such a flag speaks of.
 abbrev pub present : {X : Type 0} → Reading X → Bool → Reading (Option X)
 present value false = made None
 present value true = field value (λ x. made (Some x))
@@ -93,6 +94,7 @@ present value true = field value (λ x. made (Some x))
 unfoldable pub optional_at : {X : Type 0} → Reading X → Reading (Option X)
 optional_at value = field flag_at (present value)
 
+-- The value that was found for the word n, which stands at these bytes.
 abbrev pub named : {X : Type 0} → Option X → ℕ → List ℕ → List ℕ → Result (X × List ℕ) Fault
 named None n bytes rest = fault_at (enum n) bytes
 named (Some x) n bytes rest = Ok (x, rest)

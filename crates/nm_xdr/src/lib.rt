@@ -17,9 +17,11 @@
 //! - Takes need no memory.
 //!
 //! `specs/Items` has the spelling and the reading of each item, as functions on lists of bytes, and
-//! `specs/Fields` the words by which a layout of several items is put together from them. `proofs/` has one
-//! step for each such word: with these the reading and the spelling of a layout are shown to belong together
-//! by one line a field.
+//! `specs/Fields` the words by which a layout of several items is put together from them. `specs/Places` says
+//! what a call that reads from a cursor gives, which is the contract of each take and of every reader above.
+//!
+//! `proofs/FieldLaws` has one step for each word of `Fields`, and `proofs/ItemLaws` one fact for each item:
+//! with these the reading and the spelling of a layout are shown to belong together by one line a field.
 #![tactic(auto)]
 
 mod cursor;
