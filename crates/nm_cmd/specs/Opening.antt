@@ -1,13 +1,16 @@
 -- What an OPEN and a CLOSE that nothing stops leave of the tables.
-use Rattle.std.specs.Prelude.{ℕ, ◌+◌, List, Option, Some, None, if◌then◌else◌}
+use Rattle.std.specs.Prelude.{◌≡◌, ℕ, ◌+◌, List, Option, Some, None, if◌then◌else◌}
 use Rattle.nm_rules.specs.Parties.{Party}
 use Rattle.nm_rules.specs.Files.{TreeNow, file_at, tree_after}
 use Rattle.nm_rules.specs.Shares.{put_open, opens_after}
 use Rattle.nm_rules.specs.Shares.OpenWord.{Drop}
 use Rattle.nm_rules.specs.Past.{claimed_name, opener}
-use Rattle.nm_rules.specs.Seen.{Seen}
+use Rattle.nm_rules.specs.Seen.{Seen, after}
+use Rattle.nm_rules.specs.Answer.{answer_to}
 use Rattle.nm_rules.specs.Opens.{file_to_open}
 use Rattle.nm_rules.specs.declared.calls.Owner.{Owner}
+use Rattle.nm_rules.specs.declared.calls.Event.{Event}
+use Rattle.nm_rules.specs.declared.calls.Reply.{Reply}
 use Rattle.nm_rules.specs.declared.calls.OpenArgs.{OpenArgs}
 use Rattle.nm_rules.specs.declared.rows.FileRow.{FileRow}
 use Rattle.nm_shares.specs.Rows.{row_to_take, last_after}
@@ -34,3 +37,8 @@ after_open s party args = record (after_taking s (opener party args) (file_to_op
 
 unfoldable pub after_drop : Seen → ℕ → Seen
 after_drop s counter = record s { opens = opens_after (Drop counter) s.opens }
+
+-- The reply is the answer to the event, and the tables are those after it.
+pub record Applied (before : Seen) (event : Event) (reply : Reply) (new : Seen) : Type 0 where
+  pub answer : reply ≡ answer_to before event
+  pub tables : new ≡ after before event reply

@@ -1,16 +1,17 @@
 //! One file system of a server: its files, by name, and its opens.
 ghost use Rattle.std.specs.Prelude.{◌≡◌, ◌<◌, ◌+◌, ◌≤◌, ◌^◌, true, false, Some, IfOk, IfSome, IsSome, OnOk, option_map, option_copied};
 ghost use Rattle.nm_rules.specs.Files.{file_at, tree_after};
+ghost use Rattle.nm_rules.specs.Sound.{rises};
 ghost use Rattle.nm_rules.specs.Shares.{is_opposed, open_at};
 ghost use Rattle.nm_rules.specs.Past.{claimed_name, opener};
-ghost use Rattle.nm_rules.specs.Seen.{empty, after};
+ghost use Rattle.nm_rules.specs.Seen.{empty};
 ghost use Rattle.nm_rules.specs.Checks.{first};
 ghost use Rattle.nm_rules.specs.Checks.Stop.{Refuse};
 ghost use Rattle.nm_rules.specs.Opens.{open_checks, close_checks, open_named, finds_none, is_share, file_to_open, seqid_stop, lease_stop, open_value, close_value, is_own, given_seqid};
 ghost use Rattle.nm_rules.specs.declared.calls.Event.TheVariants.{Asked};
 ghost use Rattle.nm_rules.specs.declared.calls.Deed.TheVariants.{Open as OpenDeed, Close as CloseDeed};
-ghost use Rattle.nm_rules.specs.Answer.{answer_to, reply_with};
-ghost use Rattle.nm_cmd.specs.Opening.{after_open, after_drop, after_taking};
+ghost use Rattle.nm_rules.specs.Answer.{reply_with};
+ghost use Rattle.nm_cmd.specs.Opening.{Applied, after_open, after_drop, after_taking};
 ghost use Rattle.nm_shares.specs.Rows.{state_of, row_to_take};
 
 use nm_rules::{
@@ -186,6 +187,7 @@ impl FileSystem {
         requires share { is_share args.now.access args.now.deny ≡ true }
         requires free { is_opposed owner.now file args.now.access args.now.deny self.old.opens ≡ false }
         ensures state { IfOk result (λ state. state ≡ state_of (row_to_take self.old.last self.old.opens owner.now file args.now.access args.now.deny)) }
+        ensures rising { OnOk result (rises 0 self.old.last self.old.opens ≡ true) }
         ensures after { OnOk result (self.new ≡ after_taking self.old owner.now file args.now.access args.now.deny) }
     {
         match self.shares.take_open(owner, file, args.access, args.deny) {
@@ -204,6 +206,7 @@ impl FileSystem {
         requires share { is_share args.now.access args.now.deny ≡ true }
         requires free { is_opposed owner.now (file_to_open self.old args.now) args.now.access args.now.deny self.old.opens ≡ false }
         ensures value { IfOk result (λ opened. open_value self.old (Some party) args.now ≡ Some opened) }
+        ensures rising { OnOk result (rises 0 self.old.last self.old.opens ≡ true) }
         ensures after { OnOk result (self.new ≡ after_open self.old party args.now) }
     {
         let file = self.file_to_open(args);
@@ -248,11 +251,14 @@ impl FileSystem {
     }
 
     // Answers an OPEN.
+    #[tactic(
+        auto,
+        using(nm_rules::proofs::Legal::open_goes)
+    )]
     fn open(&mut self, caller: Option<Instance>, file: u64, args: &OpenArgs, verdict: Verdict) -> Result<Reply, Memory>
         requires room { self.old.last < 2 ^ 63 }
         requires more_files { self.old.tree.last_file < 2 ^ 63 }
-        ensures reply { IfOk result (λ r. r ≡ answer_to self.old (Asked (record { caller = caller; file = file; deed = OpenDeed args.now }) verdict)) }
-        ensures after { IfOk result (λ r. self.new ≡ after self.old (Asked (record { caller = caller; file = file; deed = OpenDeed args.now }) verdict) r) }
+        ensures { IfOk result (λ r. Applied self.old (Asked (record { caller = caller; file = file; deed = OpenDeed args.now }) verdict) r self.new) }
     {
         let Some(party) = caller else {
             return Ok(self.reply(OpStatus::StaleClientId, ReplyValue::Open(None)));
@@ -270,9 +276,12 @@ impl FileSystem {
     }
 
     // Answers a CLOSE.
+    #[tactic(
+        auto,
+        using(crate::proofs::OpeningLemmas::close_names)
+    )]
     fn close(&mut self, caller: Option<Instance>, file: u64, args: &CloseArgs, verdict: Verdict) -> Reply
-        ensures reply { result ≡ answer_to self.old (Asked (record { caller = caller; file = file; deed = CloseDeed args.now }) verdict) }
-        ensures after { self.new ≡ after self.old (Asked (record { caller = caller; file = file; deed = CloseDeed args.now }) verdict) result }
+        ensures { Applied self.old (Asked (record { caller = caller; file = file; deed = CloseDeed args.now }) verdict) result self.new }
     {
         if let Some(status) = self.close_stop(caller, file, args, verdict) {
             return self.reply(status, ReplyValue::Close(None));
@@ -285,8 +294,7 @@ impl FileSystem {
     pub fn apply(&mut self, call: &Call, verdict: Verdict) -> Result<Reply, Memory>
         requires room { self.old.last < 2 ^ 63 }
         requires more_files { self.old.tree.last_file < 2 ^ 63 }
-        ensures reply { IfOk result (λ r. r ≡ answer_to self.old (Asked call.now verdict)) }
-        ensures after { IfOk result (λ r. self.new ≡ after self.old (Asked call.now verdict) r) }
+        ensures { IfOk result (λ r. Applied self.old (Asked call.now verdict) r self.new) }
     {
         match &call.deed {
             Deed::Open(args) => Ok(self.open(call.caller, call.file, args, verdict)?),

@@ -88,6 +88,7 @@ impl Shares {
         requires room { self.old.last < 2 ^ 63 }
         requires share { is_share access deny ≡ true }
 
+        ensures rising { rises 0 self.old.last self.old.table ≡ true }
         ensures answer { Tells result (take_answer self.old owner.now file access deny) }
         ensures ok { OnOk result (self.new ≡ after_take self.old owner.now file access deny) }
         ensures err { OnErr result (self.new ≡ self.old) }
