@@ -1,6 +1,7 @@
 //! The program `nfsmove`.
 #![tactic(auto)]
 
+mod clients;
 mod file_system;
 mod tree;
 
