@@ -1,5 +1,5 @@
 -- The printed text, and why a script is refused.
-use Rattle.std.specs.Prelude.{ℕ, ◌==◌, List, [], ◌∷◌, ◌++◌, codes, decimal, flat_map, if◌then◌else◌}
+use Rattle.std.specs.Prelude.{◌≡◌, ℕ, ◌==◌, List, [], ◌∷◌, ◌++◌, codes, decimal, flat_map, if◌then◌else◌}
 use Rattle.nm_rules.specs.declared.action.Verb.{Verb}
 use Rattle.nm_rules.specs.declared.action.Verb.TheVariants.{Open, Create, Close}
 use Rattle.nm_rules.specs.declared.status.OpStatus.{OpStatus}
@@ -96,10 +96,14 @@ outcome_text row = row.client ++ codes " " ++ verb_text row.verb ++ codes " " ++
 unfoldable pub phase_text : List ℕ → PhaseNow → List ℕ
 phase_text file_system (At server) = file_system ++ codes " at " ++ server
 
+-- what an open shares: its access and its deny
+unfoldable pub shares_text : ℕ → ℕ → List ℕ
+shares_text access deny = access_text access ++ codes " " ++ deny_text deny
+
 -- a stateid on a file, of an owner: an open has its access and its deny
 unfoldable pub held_text : List ℕ → List ℕ → HeldKind → List ℕ
 held_text file owner (OpenHeld access deny) =
-    codes "open " ++ file ++ codes " " ++ owner ++ codes " " ++ access_text access ++ codes " " ++ deny_text deny
+    codes "open " ++ file ++ codes " " ++ owner ++ codes " " ++ shares_text access deny
 
 -- two spaces, and what is held
 unfoldable pub held_row_text : HeldRow → List ℕ
@@ -136,3 +140,8 @@ refusal_text line why = codes "line " ++ decimal line ++ codes ": " ++ why_text 
 -- how the program is called
 unfoldable pub commands_text : List ℕ
 commands_text = codes "usage: nfsmove replay | nfsmove live" ++ line_feed
+
+-- what was written before still stands, and perhaps more behind it
+pub record Stands (before now : List ℕ) : Type 0 where
+  pub more : List ℕ
+  pub front : now ≡ before ++ more
