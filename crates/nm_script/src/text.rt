@@ -1,6 +1,6 @@
 //! The printed text: a line for each outcome, and for a file system its phase and what is held in it.
 ghost use Rattle.std.specs.Prelude.{◌≡◌, ◌++◌, codes, decimal, flat_map, IfOk, OnOk, OnErr};
-ghost use Rattle.nm_script.specs.Text.{status_text, verb_text, told_text, access_text, deny_text, line_feed, shares_text, outcome_text, phase_text, held_text, held_row_text, table_text, row_text, report_text, why_text, refusal_text, commands_text, Stands};
+ghost use Rattle.nm_script.specs.Text.{status_text, verb_text, told_text, access_text, deny_text, line_feed, shares_text, outcome_text, phase_text, held_words, held_row_text, held_text_of, row_text, report_text, why_text, fault_text_of, usage_text_of, Stands};
 
 use crate::{OutcomeRow, PhaseNow, Report, ReportRow, Told, Why};
 use nm_rules::{HeldKind, HeldRow, HeldTable, Memory, OpStatus, Verb};
@@ -176,9 +176,9 @@ fn append_shares(out: &mut Vec<u8>, access: u32, deny: u32) -> Result<(), Memory
     append_deny(out, deny)
 }
 
-#[tactic(auto, using(crate::proofs::TextLemmas::stands_more), unfolding(crate::specs::Text::held_text))]
+#[tactic(auto, using(crate::proofs::TextLemmas::stands_more), unfolding(crate::specs::Text::held_words))]
 fn append_held(out: &mut Vec<u8>, file: &[u8], owner: &[u8], held: &HeldKind) -> Result<(), Memory>
-    ensures ok { OnOk result (out.new.items ≡ out.old.items ++ held_text file.now owner.now held.now) }
+    ensures ok { OnOk result (out.new.items ≡ out.old.items ++ held_words file.now owner.now held.now) }
     ensures err { OnErr result (Stands out.old.items out.new.items) }
 {
     match held {
@@ -214,14 +214,14 @@ fn append_held_rows(out: &mut Vec<u8>, rows: &[HeldRow]) -> Result<(), Memory>
     Ok(())
 }
 
-#[tactic(auto, using(crate::proofs::TextLemmas::stands_more), unfolding(crate::specs::Text::table_text))]
+#[tactic(auto, using(crate::proofs::TextLemmas::stands_more), unfolding(crate::specs::Text::held_text_of))]
 fn append_table(
     out: &mut Vec<u8>,
     file_system: &[u8],
     phase: &PhaseNow,
     table: &HeldTable,
 ) -> Result<(), Memory>
-    ensures ok { OnOk result (out.new.items ≡ out.old.items ++ table_text file_system.now phase.now table.now) }
+    ensures ok { OnOk result (out.new.items ≡ out.old.items ++ held_text_of file_system.now phase.now table.now) }
     ensures err { OnErr result (Stands out.old.items out.new.items) }
 {
     append_phase(out, file_system, phase)?;
@@ -273,7 +273,7 @@ pub fn held_text(
     phase: &PhaseNow,
     table: &HeldTable,
 ) -> Result<Vec<u8>, Memory>
-    ensures { IfOk result (λ text. text.items ≡ table_text name.now phase.now table.now) }
+    ensures { IfOk result (λ text. text.items ≡ held_text_of name.now phase.now table.now) }
 {
     let mut out = Vec::new(alloc);
     append_table(&mut out, name, phase, table)?;
@@ -282,9 +282,9 @@ pub fn held_text(
 
 /// Why a script is refused, as `line N: WHY`, where N counts from 1 and WHY is one of the words limit, bytes, head,
 /// word, name and number. `Memory` where an allocation failed.
-#[tactic(auto, unfolding(crate::specs::Text::refusal_text))]
+#[tactic(auto, unfolding(crate::specs::Text::fault_text_of))]
 pub fn fault_text(alloc: Global, line: u64, why: Why) -> Result<Vec<u8>, Memory>
-    ensures { IfOk result (λ text. text.items ≡ refusal_text line why) }
+    ensures { IfOk result (λ text. text.items ≡ fault_text_of line why) }
 {
     let mut out = Vec::new(alloc);
     append(&mut out, b"line ")?;
@@ -296,9 +296,9 @@ pub fn fault_text(alloc: Global, line: u64, why: Why) -> Result<Vec<u8>, Memory>
 }
 
 /// How the program is called, on a line. `Memory` where an allocation failed.
-#[tactic(auto, unfolding(crate::specs::Text::commands_text))]
+#[tactic(auto, unfolding(crate::specs::Text::usage_text_of))]
 pub fn usage_text(alloc: Global) -> Result<Vec<u8>, Memory>
-    ensures { IfOk result (λ text. text.items ≡ commands_text) }
+    ensures { IfOk result (λ text. text.items ≡ usage_text_of) }
 {
     let mut out = Vec::new(alloc);
     append(&mut out, b"usage: nfsmove replay | nfsmove live\n")?;
