@@ -1,2 +1,3 @@
 pub mod OutsideLemmas
 pub mod SourceLaws
+pub mod TextLemmas

@@ -1,5 +1,5 @@
 -- The printed text, and why a script is refused.
-use Rattle.std.specs.Prelude.{ℕ, ◌==◌, List, [], ◌∷◌, ◌++◌, codes, decimal, flat_map, if◌then◌else◌}
+use Rattle.std.specs.Prelude.{◌≡◌, ℕ, ◌==◌, List, [], ◌∷◌, ◌++◌, codes, decimal, flat_map, if◌then◌else◌}
 use Rattle.nm_rules.specs.declared.action.Verb.{Verb}
 use Rattle.nm_rules.specs.declared.action.Verb.TheVariants.{Open, Create, Close}
 use Rattle.nm_rules.specs.declared.status.OpStatus.{OpStatus}
@@ -17,7 +17,7 @@ use Rattle.nm_script.specs.declared.report.ReportRow.TheVariants.{Outcome, Held}
 use Rattle.nm_script.specs.declared.script.Why.{Why}
 use Rattle.nm_script.specs.declared.script.Why.TheVariants.{Limit, Bytes, Head, Word, Name, Number}
 
--- A status is printed by its name in the standard (RFC 7530, 13.1), without the prefix that all names share.
+-- A status is printed by its name in the standard (RFC 7530, 13.1), without NFS4_ or NFS4ERR_ at its front.
 unfoldable pub status_text : OpStatus → List ℕ
 status_text Nfs4Ok = codes "OK"
 status_text NoEnt = codes "NOENT"
@@ -96,22 +96,26 @@ outcome_text row = row.client ++ codes " " ++ verb_text row.verb ++ codes " " ++
 unfoldable pub phase_text : List ℕ → PhaseNow → List ℕ
 phase_text file_system (At server) = file_system ++ codes " at " ++ server
 
+-- what an open shares: its access and its deny
+unfoldable pub shares_text : ℕ → ℕ → List ℕ
+shares_text access deny = access_text access ++ codes " " ++ deny_text deny
+
 -- a stateid on a file, of an owner: an open has its access and its deny
-unfoldable pub held_text : List ℕ → List ℕ → HeldKind → List ℕ
-held_text file owner (OpenHeld access deny) =
-    codes "open " ++ file ++ codes " " ++ owner ++ codes " " ++ access_text access ++ codes " " ++ deny_text deny
+unfoldable pub held_words : List ℕ → List ℕ → HeldKind → List ℕ
+held_words file owner (OpenHeld access deny) =
+    codes "open " ++ file ++ codes " " ++ owner ++ codes " " ++ shares_text access deny
 
 -- two spaces, and what is held
 unfoldable pub held_row_text : HeldRow → List ℕ
-held_row_text row = codes "  " ++ held_text row.name row.owner row.row ++ line_feed
+held_row_text row = codes "  " ++ held_words row.name row.owner row.row ++ line_feed
 
 -- the phase line of a file system, and a line for each stateid
-unfoldable pub table_text : List ℕ → PhaseNow → List HeldRow → List ℕ
-table_text file_system phase table = phase_text file_system phase ++ line_feed ++ flat_map held_row_text table
+unfoldable pub held_text_of : List ℕ → PhaseNow → List HeldRow → List ℕ
+held_text_of file_system phase table = phase_text file_system phase ++ line_feed ++ flat_map held_row_text table
 
 unfoldable pub row_text : ReportRow → List ℕ
 row_text (Outcome row) = outcome_text row
-row_text (Held held) = table_text held.file_system held.phase held.table
+row_text (Held held) = held_text_of held.file_system held.phase held.table
 
 -- what a line of a script prints: its rows, one after the other
 abbrev pub report_text : List ReportRow → List ℕ
@@ -130,9 +134,14 @@ why_text Name = codes "name"
 why_text Number = codes "number"
 
 -- `line N: WHY`
-unfoldable pub refusal_text : ℕ → Why → List ℕ
-refusal_text line why = codes "line " ++ decimal line ++ codes ": " ++ why_text why ++ line_feed
+unfoldable pub fault_text_of : ℕ → Why → List ℕ
+fault_text_of line why = codes "line " ++ decimal line ++ codes ": " ++ why_text why ++ line_feed
 
 -- how the program is called
-unfoldable pub commands_text : List ℕ
-commands_text = codes "usage: nfsmove replay | nfsmove live" ++ line_feed
+unfoldable pub usage_text_of : List ℕ
+usage_text_of = codes "usage: nfsmove replay | nfsmove live" ++ line_feed
+
+-- what was written before still stands, and perhaps more behind it
+pub record Stands (before now : List ℕ) : Type 0 where
+  pub more : List ℕ
+  pub front : now ≡ before ++ more

@@ -1,6 +1,6 @@
 //! The printed text: a line for each outcome, and for a file system its phase and what is held in it.
-ghost use Rattle.std.specs.Prelude.{◌≡◌, ◌++◌, codes, decimal, flat_map, IfOk, OnOk};
-ghost use Rattle.nm_script.specs.Text.{status_text, verb_text, told_text, access_text, deny_text, line_feed, outcome_text, phase_text, held_text, held_row_text, table_text, row_text, report_text, why_text, refusal_text, commands_text};
+ghost use Rattle.std.specs.Prelude.{◌≡◌, ◌++◌, codes, decimal, flat_map, IfOk, OnOk, OnErr};
+ghost use Rattle.nm_script.specs.Text.{status_text, verb_text, told_text, access_text, deny_text, line_feed, shares_text, outcome_text, phase_text, held_words, held_row_text, held_text_of, row_text, report_text, why_text, fault_text_of, usage_text_of, Stands};
 
 use crate::{OutcomeRow, PhaseNow, Report, ReportRow, Told, Why};
 use nm_rules::{HeldKind, HeldRow, HeldTable, Memory, OpStatus, Verb};
@@ -97,23 +97,28 @@ fn why_word(why: Why) -> &'static [u8]
 }
 
 // Writes a text behind what was written.
+#[tactic(auto, using(crate::proofs::TextLemmas::stands_still))]
 fn append(out: &mut Vec<u8>, text: &[u8]) -> Result<(), Memory>
-    ensures { OnOk result (out.new.items ≡ out.old.items ++ text.now) }
+    ensures ok { OnOk result (out.new.items ≡ out.old.items ++ text.now) }
+    ensures err { OnErr result (Stands out.old.items out.new.items) }
 {
     Ok(out.extend_from_slice(text)?)
 }
 
 // Writes a number behind it, in decimal digits.
+#[tactic(auto, using(crate::proofs::TextLemmas::stands_still))]
 fn append_number(out: &mut Vec<u8>, n: u64) -> Result<(), Memory>
-    ensures { OnOk result (out.new.items ≡ out.old.items ++ decimal n) }
+    ensures ok { OnOk result (out.new.items ≡ out.old.items ++ decimal n) }
+    ensures err { OnErr result (Stands out.old.items out.new.items) }
 {
     let digits = format!(in *out.allocator(); "{n}")?;
     append(out, digits.as_bytes())
 }
 
-#[tactic(auto, unfolding(crate::specs::Text::access_text))]
+#[tactic(auto, using(crate::proofs::TextLemmas::stands_more), unfolding(crate::specs::Text::access_text))]
 fn append_access(out: &mut Vec<u8>, access: u32) -> Result<(), Memory>
-    ensures { OnOk result (out.new.items ≡ out.old.items ++ access_text access) }
+    ensures ok { OnOk result (out.new.items ≡ out.old.items ++ access_text access) }
+    ensures err { OnErr result (Stands out.old.items out.new.items) }
 {
     match access {
         1 => append(out, b"r"),
@@ -123,9 +128,10 @@ fn append_access(out: &mut Vec<u8>, access: u32) -> Result<(), Memory>
     }
 }
 
-#[tactic(auto, unfolding(crate::specs::Text::deny_text))]
+#[tactic(auto, using(crate::proofs::TextLemmas::stands_more), unfolding(crate::specs::Text::deny_text))]
 fn append_deny(out: &mut Vec<u8>, deny: u32) -> Result<(), Memory>
-    ensures { OnOk result (out.new.items ≡ out.old.items ++ deny_text deny) }
+    ensures ok { OnOk result (out.new.items ≡ out.old.items ++ deny_text deny) }
+    ensures err { OnErr result (Stands out.old.items out.new.items) }
 {
     if deny == 0 {
         return append(out, b"none");
@@ -133,9 +139,10 @@ fn append_deny(out: &mut Vec<u8>, deny: u32) -> Result<(), Memory>
     append_access(out, deny)
 }
 
-#[tactic(auto, unfolding(crate::specs::Text::outcome_text))]
+#[tactic(auto, using(crate::proofs::TextLemmas::stands_more), unfolding(crate::specs::Text::outcome_text))]
 fn append_outcome(out: &mut Vec<u8>, row: &OutcomeRow) -> Result<(), Memory>
-    ensures { OnOk result (out.new.items ≡ out.old.items ++ outcome_text row.now) }
+    ensures ok { OnOk result (out.new.items ≡ out.old.items ++ outcome_text row.now) }
+    ensures err { OnErr result (Stands out.old.items out.new.items) }
 {
     append(out, row.client.items())?;
     append(out, b" ")?;
@@ -145,9 +152,10 @@ fn append_outcome(out: &mut Vec<u8>, row: &OutcomeRow) -> Result<(), Memory>
     append(out, b"\n")
 }
 
-#[tactic(auto, unfolding(crate::specs::Text::phase_text))]
+#[tactic(auto, using(crate::proofs::TextLemmas::stands_more), unfolding(crate::specs::Text::phase_text))]
 fn append_phase(out: &mut Vec<u8>, file_system: &[u8], phase: &PhaseNow) -> Result<(), Memory>
-    ensures { OnOk result (out.new.items ≡ out.old.items ++ phase_text file_system.now phase.now) }
+    ensures ok { OnOk result (out.new.items ≡ out.old.items ++ phase_text file_system.now phase.now) }
+    ensures err { OnErr result (Stands out.old.items out.new.items) }
 {
     match phase {
         PhaseNow::At(server) => {
@@ -158,9 +166,20 @@ fn append_phase(out: &mut Vec<u8>, file_system: &[u8], phase: &PhaseNow) -> Resu
     }
 }
 
-#[tactic(auto, unfolding(crate::specs::Text::held_text))]
+#[tactic(auto, using(crate::proofs::TextLemmas::stands_more), unfolding(crate::specs::Text::shares_text))]
+fn append_shares(out: &mut Vec<u8>, access: u32, deny: u32) -> Result<(), Memory>
+    ensures ok { OnOk result (out.new.items ≡ out.old.items ++ shares_text access deny) }
+    ensures err { OnErr result (Stands out.old.items out.new.items) }
+{
+    append_access(out, access)?;
+    append(out, b" ")?;
+    append_deny(out, deny)
+}
+
+#[tactic(auto, using(crate::proofs::TextLemmas::stands_more), unfolding(crate::specs::Text::held_words))]
 fn append_held(out: &mut Vec<u8>, file: &[u8], owner: &[u8], held: &HeldKind) -> Result<(), Memory>
-    ensures { OnOk result (out.new.items ≡ out.old.items ++ held_text file.now owner.now held.now) }
+    ensures ok { OnOk result (out.new.items ≡ out.old.items ++ held_words file.now owner.now held.now) }
+    ensures err { OnErr result (Stands out.old.items out.new.items) }
 {
     match held {
         HeldKind::Open { access, deny } => {
@@ -169,24 +188,25 @@ fn append_held(out: &mut Vec<u8>, file: &[u8], owner: &[u8], held: &HeldKind) ->
             append(out, b" ")?;
             append(out, owner)?;
             append(out, b" ")?;
-            append_access(out, *access)?;
-            append(out, b" ")?;
-            append_deny(out, *deny)
+            append_shares(out, *access, *deny)
         }
     }
 }
 
-#[tactic(auto, unfolding(crate::specs::Text::held_row_text))]
+#[tactic(auto, using(crate::proofs::TextLemmas::stands_more), unfolding(crate::specs::Text::held_row_text))]
 fn append_held_row(out: &mut Vec<u8>, row: &HeldRow) -> Result<(), Memory>
-    ensures { OnOk result (out.new.items ≡ out.old.items ++ held_row_text row.now) }
+    ensures ok { OnOk result (out.new.items ≡ out.old.items ++ held_row_text row.now) }
+    ensures err { OnErr result (Stands out.old.items out.new.items) }
 {
     append(out, b"  ")?;
     append_held(out, row.name.items(), row.owner.items(), &row.row)?;
     append(out, b"\n")
 }
 
+#[tactic(auto, using(crate::proofs::TextLemmas::stands_more))]
 fn append_held_rows(out: &mut Vec<u8>, rows: &[HeldRow]) -> Result<(), Memory>
-    ensures { OnOk result (out.new.items ≡ out.old.items ++ flat_map held_row_text rows.now) }
+    ensures ok { OnOk result (out.new.items ≡ out.old.items ++ flat_map held_row_text rows.now) }
+    ensures err { OnErr result (Stands out.old.items out.new.items) }
 {
     for row in rows {
         append_held_row(out, row)?;
@@ -194,23 +214,25 @@ fn append_held_rows(out: &mut Vec<u8>, rows: &[HeldRow]) -> Result<(), Memory>
     Ok(())
 }
 
-#[tactic(auto, unfolding(crate::specs::Text::table_text))]
+#[tactic(auto, using(crate::proofs::TextLemmas::stands_more), unfolding(crate::specs::Text::held_text_of))]
 fn append_table(
     out: &mut Vec<u8>,
     file_system: &[u8],
     phase: &PhaseNow,
     table: &HeldTable,
 ) -> Result<(), Memory>
-    ensures { OnOk result (out.new.items ≡ out.old.items ++ table_text file_system.now phase.now table.now) }
+    ensures ok { OnOk result (out.new.items ≡ out.old.items ++ held_text_of file_system.now phase.now table.now) }
+    ensures err { OnErr result (Stands out.old.items out.new.items) }
 {
     append_phase(out, file_system, phase)?;
     append(out, b"\n")?;
     append_held_rows(out, table.items())
 }
 
-#[tactic(auto, unfolding(crate::specs::Text::row_text))]
+#[tactic(auto, using(crate::proofs::TextLemmas::stands_more), unfolding(crate::specs::Text::row_text))]
 fn append_row(out: &mut Vec<u8>, row: &ReportRow) -> Result<(), Memory>
-    ensures { OnOk result (out.new.items ≡ out.old.items ++ row_text row.now) }
+    ensures ok { OnOk result (out.new.items ≡ out.old.items ++ row_text row.now) }
+    ensures err { OnErr result (Stands out.old.items out.new.items) }
 {
     match row {
         ReportRow::Outcome(outcome) => append_outcome(out, outcome),
@@ -220,10 +242,12 @@ fn append_row(out: &mut Vec<u8>, row: &ReportRow) -> Result<(), Memory>
     }
 }
 
-/// Appends what a line of a script prints to what was written so far. `Memory` where an allocation failed; of what
-/// `out` then holds nothing is said.
+/// Appends what a line of a script prints to what was written so far. `Memory` where an allocation failed: what was
+/// written before then still stands, and nothing is said of what is behind it.
+#[tactic(auto, using(crate::proofs::TextLemmas::stands_more))]
 pub fn append_line_text(out: &mut Vec<u8>, report: &Report) -> Result<(), Memory>
-    ensures { OnOk result (out.new.items ≡ out.old.items ++ report_text report.now) }
+    ensures ok { OnOk result (out.new.items ≡ out.old.items ++ report_text report.now) }
+    ensures err { OnErr result (Stands out.old.items out.new.items) }
 {
     for row in report.items() {
         append_row(out, row)?;
@@ -249,7 +273,7 @@ pub fn held_text(
     phase: &PhaseNow,
     table: &HeldTable,
 ) -> Result<Vec<u8>, Memory>
-    ensures { IfOk result (λ text. text.items ≡ table_text name.now phase.now table.now) }
+    ensures { IfOk result (λ text. text.items ≡ held_text_of name.now phase.now table.now) }
 {
     let mut out = Vec::new(alloc);
     append_table(&mut out, name, phase, table)?;
@@ -258,9 +282,9 @@ pub fn held_text(
 
 /// Why a script is refused, as `line N: WHY`, where N counts from 1 and WHY is one of the words limit, bytes, head,
 /// word, name and number. `Memory` where an allocation failed.
-#[tactic(auto, unfolding(crate::specs::Text::refusal_text))]
+#[tactic(auto, unfolding(crate::specs::Text::fault_text_of))]
 pub fn fault_text(alloc: Global, line: u64, why: Why) -> Result<Vec<u8>, Memory>
-    ensures { IfOk result (λ text. text.items ≡ refusal_text line why) }
+    ensures { IfOk result (λ text. text.items ≡ fault_text_of line why) }
 {
     let mut out = Vec::new(alloc);
     append(&mut out, b"line ")?;
@@ -272,9 +296,9 @@ pub fn fault_text(alloc: Global, line: u64, why: Why) -> Result<Vec<u8>, Memory>
 }
 
 /// How the program is called, on a line. `Memory` where an allocation failed.
-#[tactic(auto, unfolding(crate::specs::Text::commands_text))]
+#[tactic(auto, unfolding(crate::specs::Text::usage_text_of))]
 pub fn usage_text(alloc: Global) -> Result<Vec<u8>, Memory>
-    ensures { IfOk result (λ text. text.items ≡ commands_text) }
+    ensures { IfOk result (λ text. text.items ≡ usage_text_of) }
 {
     let mut out = Vec::new(alloc);
     append(&mut out, b"usage: nfsmove replay | nfsmove live\n")?;
