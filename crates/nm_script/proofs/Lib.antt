@@ -1,3 +1,5 @@
+pub mod DraftLaws
 pub mod RunLaws
 pub mod SourceLaws
+pub mod ScriptLaws
 pub mod WordLaws

@@ -20,9 +20,9 @@ use Rattle.nm_script.specs.Words.{says_something, is_printable, is_name_byte}
 
 -- Each line ends at its line feed; the last line feed may be missing, where something stands before it.
 pub data IsLines : List ℕ → List (List ℕ) → Type 0 where
-  none : IsLines [] []
-  last : {line : List ℕ} → 0 < length line → list_any (λ b. b == 10) line ≡ false → IsLines line (line ∷ [])
-  more : {line rest : List ℕ} {lines : List (List ℕ)} → list_any (λ b. b == 10) line ≡ false → IsLines rest lines → IsLines (line ++ 10 ∷ rest) (line ∷ lines)
+  no_line : IsLines [] []
+  last_line : {line : List ℕ} → 0 < length line → list_any (λ b. b == 10) line ≡ false → IsLines line (line ∷ [])
+  next_line : {line rest : List ℕ} {lines : List (List ℕ)} → list_any (λ b. b == 10) line ≡ false → IsLines rest lines → IsLines (line ++ 10 ∷ rest) (line ∷ lines)
 
 -- ---- how a script is lines, each of them the words of it
 
