@@ -140,11 +140,11 @@ list_any-map p f (x ∷ xs) = ap (λ b. p (f x) || b) (list_any-map p f xs)
 abbrev pub is_among : List ℕ → List (List ℕ) → Bool
 is_among name names = list_any (λ n. bytes_eq n name) names
 
-both_false : (a b : Bool) → a ≡ false → b ≡ false → (a || b) ≡ false
+pub both_false : (a b : Bool) → a ≡ false → b ≡ false → (a || b) ≡ false
 both_false true b p q = absurd cc
 both_false false b p q = q
 
-both_true : (a b : Bool) → a ≡ true → b ≡ true → (a && b) ≡ true
+pub both_true : (a b : Bool) → a ≡ true → b ≡ true → (a && b) ≡ true
 both_true true b p q = q
 both_true false b p q = absurd cc
 
@@ -154,7 +154,7 @@ differ_push (n ∷ ns) name differ new =
     let p = and_true (not (list_any (bytes_eq n) ns)) (all_differ ns) differ in
     let q = or_false (bytes_eq n name) (is_among name ns) new in
     let none : list_any (bytes_eq n) (ns ++ name ∷ []) ≡ false =
-        list_any-append (bytes_eq n) ns (name ∷ []) ∙ both_false (list_any (bytes_eq n) ns) (bytes_eq n name || false) (not_true (list_any (bytes_eq n) ns) p.0) (both_false (bytes_eq n name) false q.0 refl) in
+    list_any-append (bytes_eq n) ns (name ∷ []) ∙ both_false (list_any (bytes_eq n) ns) (bytes_eq n name || false) (not_true (list_any (bytes_eq n) ns) p.0) (both_false (bytes_eq n name) false q.0 refl) in
     both_true (not (list_any (bytes_eq n) (ns ++ name ∷ []))) (all_differ (ns ++ name ∷ [])) (ap not none) (differ_push ns name p.1 q.1)
 
 pub differ_front : (names more : List (List ℕ)) → all_differ (names ++ more) ≡ true → all_differ names ≡ true
@@ -179,10 +179,10 @@ among_all head name =
     let b : list_any is (file_system_names head) ≡ is_file_system head name = list_any-map is (λ row. row.name) head.file_systems in
     let c : list_any is (client_names head) ≡ is_client head name = list_any-map is (λ row. row.name) head.clients in
     sym (list_any-append is (server_names head ++ file_system_names head) (client_names head)
-        ∙ ap (λ x. x || list_any is (client_names head)) (list_any-append is (server_names head) (file_system_names head))
-        ∙ ap (λ x. x || list_any is (file_system_names head) || list_any is (client_names head)) a
-        ∙ ap (λ x. is_server head name || x || list_any is (client_names head)) b
-        ∙ ap (λ x. is_server head name || is_file_system head name || x) c)
+    ∙ ap (λ x. x || list_any is (client_names head)) (list_any-append is (server_names head) (file_system_names head))
+    ∙ ap (λ x. x || list_any is (file_system_names head) || list_any is (client_names head)) a
+    ∙ ap (λ x. is_server head name || x || list_any is (client_names head)) b
+    ∙ ap (λ x. is_server head name || is_file_system head name || x) c)
 
 pub new_found : (head : Head) (name : List ℕ) → is_new_name head name ≡ true → IsName name × (is_among name (all_names head) ≡ false)
 unfolding is_new_name
@@ -251,7 +251,7 @@ abbrev pub ran : Draft → Line → Draft
 ran d line = record d { last = Some kind.Run; lines = d.lines ++ line ∷ [] }
 
 -- lines behind the same ones
-push_there : {X Y : Type 0} (f : X → Y) (pre : List Y) (xs : List X) (x : X) → pre ++ map f (xs ++ x ∷ []) ≡ (pre ++ map f xs) ++ f x ∷ []
+pub push_there : {X Y : Type 0} (f : X → Y) (pre : List Y) (xs : List X) (x : X) → pre ++ map f (xs ++ x ∷ []) ≡ (pre ++ map f xs) ++ f x ∷ []
 push_there f pre xs x = rw (map-append f xs (x ∷ [])) (sym (append_assoc pre (map f xs) (f x ∷ [])))
 
 nothing_behind : {X Y : Type 0} (f : X → Y) (xs : List X) (pre : List Y) → xs ≡ [] → pre ++ map f xs ≡ pre
@@ -506,23 +506,23 @@ file_system_found d e (w ∷ name ∷ keyword ∷ server ∷ []) is next h first
     elim (chosen (not (eqb (length d.head.file_systems) 0)) (Err why.Word) _ (Ok e) h) [
       | inl no_more ↦ absurd cc
       | inr f ↦ elim (chosen (not (bytes_eq keyword (codes "at"))) (Err why.Word) _ (Ok e) f.1) [
-          | inl other ↦ absurd cc
-          | inr g ↦ elim (chosen (not (is_new_name d.head name)) (Err why.Name) _ (Ok e) g.1) [
-              | inl old ↦ absurd cc
-              | inr k ↦
-                  let x = bind_ok (server_number d.head server) (λ at. Ok (placed d (row at))) e k.1 in
-                  let at = place_found (λ (r : ServerRow). r.name) (record { name = [] }) 16 d.head.servers server x.0 x.1 in
-                  let n = new_found d.head name (not_false _ k.0) in
-                  let none : d.head.file_systems ≡ [] = nil_from_length _ (eqb-true _ _ (not_false _ f.0)) in
-                  let words_are : w ∷ name ∷ keyword ∷ server ∷ [] ≡ file_system_words d.head (row x.0) =
-                      ap (λ (y : List ℕ). y ∷ name ∷ keyword ∷ server ∷ []) first
-                      ∙ ap (λ (y : List ℕ). codes "fs" ∷ name ∷ y ∷ server ∷ []) (same_word keyword (codes "at") (not_false _ g.0))
-                      ∙ ap (λ (y : List ℕ). codes "fs" ∷ name ∷ codes "at" ∷ y ∷ []) at.1 in
-                  subst (Adds d (w ∷ name ∷ keyword ∷ server ∷ [])) (ok_is _ e x.2)
-                  (subst (λ ws. Adds d ws (placed d (row x.0))) (sym words_are)
-                  (add_file_system d (row x.0) is (behind_server _ 4 next (omega arith)) next.rises none n.0 n.1 at.0))
-            ]
+        | inl other ↦ absurd cc
+        | inr g ↦ elim (chosen (not (is_new_name d.head name)) (Err why.Name) _ (Ok e) g.1) [
+          | inl old ↦ absurd cc
+          | inr k ↦
+              let x = bind_ok (server_number d.head server) (λ at. Ok (placed d (row at))) e k.1 in
+              let at = place_found (λ (r : ServerRow). r.name) (record { name = [] }) 16 d.head.servers server x.0 x.1 in
+              let n = new_found d.head name (not_false _ k.0) in
+              let none : d.head.file_systems ≡ [] = nil_from_length _ (eqb-true _ _ (not_false _ f.0)) in
+              let words_are : w ∷ name ∷ keyword ∷ server ∷ [] ≡ file_system_words d.head (row x.0) =
+              ap (λ (y : List ℕ). y ∷ name ∷ keyword ∷ server ∷ []) first
+              ∙ ap (λ (y : List ℕ). codes "fs" ∷ name ∷ y ∷ server ∷ []) (same_word keyword (codes "at") (not_false _ g.0))
+              ∙ ap (λ (y : List ℕ). codes "fs" ∷ name ∷ codes "at" ∷ y ∷ []) at.1 in
+              subst (Adds d (w ∷ name ∷ keyword ∷ server ∷ [])) (ok_is _ e x.2)
+              (subst (λ ws. Adds d ws (placed d (row x.0))) (sym words_are)
+              (add_file_system d (row x.0) is (behind_server _ 4 next (omega arith)) next.rises none n.0 n.1 at.0))
         ]
+      ]
     ]
 file_system_found d e (w ∷ name ∷ keyword ∷ server ∷ more ∷ words) is next h first = absurd cc
 
@@ -540,7 +540,7 @@ client_found d e (w ∷ name ∷ word ∷ []) is next few h first =
           let number = number_found word x.0 x.1 in
           let n = new_found d.head name (not_false _ k.0) in
           let words_are : w ∷ name ∷ word ∷ [] ≡ client_words (row x.0) =
-              ap (λ (y : List ℕ). y ∷ name ∷ word ∷ []) first ∙ ap (λ (y : List ℕ). codes "client" ∷ name ∷ y ∷ []) number.0 in
+          ap (λ (y : List ℕ). y ∷ name ∷ word ∷ []) first ∙ ap (λ (y : List ℕ). codes "client" ∷ name ∷ y ∷ []) number.0 in
           subst (Adds d (w ∷ name ∷ word ∷ [])) (ok_is _ e x.2)
           (subst (λ ws. Adds d ws (joined d (row x.0))) (sym words_are)
           (add_client d (row x.0) is (behind_server _ 5 next (omega arith)) next.rises few n.0 n.1 number.1))
@@ -577,7 +577,7 @@ clients_left : (d : Draft) (words : List (List ℕ)) → is_past_clients d words
 unfolding is_past_clients
 clients_left d words few next is =
     let full : not (ltb (length d.head.clients) 64) ≡ false =
-        first_false (not (ltb (length d.head.clients) 64)) (is_client_kind (first_kind words)) (may_follow d.last kind.Client) few (ap is_client_kind is) (ap (may_follow d.last) (sym is) ∙ next) in
+    first_false (not (ltb (length d.head.clients) 64)) (is_client_kind (first_kind words)) (may_follow d.last kind.Client) few (ap is_client_kind is) (ap (may_follow d.last) (sym is) ∙ next) in
     ltb-true _ _ (not_false _ full)
 
 -- a line that is taken adds its words
@@ -587,7 +587,7 @@ words_found d e words is few h =
     elim (chosen (not (may_follow d.last (first_kind words))) (Err why.Head) _ (Ok e) h) [
       | inl out ↦ absurd cc
       | inr f ↦ elim (chosen (has_empty_word words) (Err why.Word) (kind_at (first_kind words) d words) (Ok e) f.1) [
-          | inl some ↦ absurd cc
-          | inr g ↦ kind_found d e words (first_kind words) is (follows d.last (first_kind words) (not_false _ f.0)) (clients_left d words few (not_false _ f.0)) g.1 (first_is words)
-        ]
+        | inl some ↦ absurd cc
+        | inr g ↦ kind_found d e words (first_kind words) is (follows d.last (first_kind words) (not_false _ f.0)) (clients_left d words few (not_false _ f.0)) g.1 (first_is words)
+      ]
     ]

@@ -1,3 +1,4 @@
+pub mod AgainLaws
 pub mod DraftLaws
 pub mod RunLaws
 pub mod SourceLaws

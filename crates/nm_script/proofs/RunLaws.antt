@@ -72,9 +72,9 @@ module _ {X : Type 0} (f : X → List ℕ) (d : X) where
       let long : length names ≡ length xs = length-map xs f in
       let here : (j : ℕ) → j < length xs → bytes_eq (f (get_or xs j d)) name ≡ bytes_eq (get_or names j []) name = λ j in'. ap (λ n. bytes_eq n name) (sym (get_or-map f xs j d [] in')) in
       let is : position_or_len (λ x. bytes_eq (f x) name) xs ≡ k =
-          position_or_len_is (λ x. bytes_eq (f x) name) xs k d (omega arith)
-            (λ j before. here j (omega arith) ∙ differ_at names j k differ before (omega arith))
-            (λ in'. here k in' ∙ word_itself name) in
+      position_or_len_is (λ x. bytes_eq (f x) name) xs k d (omega arith)
+      (λ j before. here j (omega arith) ∙ differ_at names j k differ before (omega arith))
+      (λ in'. here k in' ∙ word_itself name) in
       rw (is, lt-ltb k (length xs) lt, lt-ltb k limit (omega arith)) refl
 
 -- ---- the parts of a head that lines need
@@ -99,7 +99,7 @@ client_found head word k e = place_found (λ row. row.name) (record { name = [];
 client_again : (head : Head) (k : ℕ) → HasNames head → k < length head.clients → client_number head (name_at (client_names head) k) ≡ Ok k
 client_again head k names lt = place_again (λ row. row.name) (record { name = []; verifier = 0 }) 64 head.clients k names.clients names.clients_few lt
 
-word_in : (names : List (List ℕ)) (k : ℕ) → AllByRecursion IsWord names → k < length names → IsWord (name_at names k)
+pub word_in : (names : List (List ℕ)) (k : ℕ) → AllByRecursion IsWord names → k < length names → IsWord (name_at names k)
 word_in [] k are lt = absurd (omega arith)
 word_in (n ∷ ns) zero are lt = are.0
 word_in (n ∷ ns) (suc k) are lt = word_in ns k are.1 (omega arith)
@@ -126,9 +126,9 @@ open_found head f file acc den owner a e =
     let deny = deny_found den y.0 y.1 in
     let at = file_system_found head f z.0 z.1 in
     let same : f ∷ file ∷ acc ∷ den ∷ owner ∷ [] ≡ open_words head (made x.0 y.0 z.0) =
-        ap (λ (w : List ℕ). w ∷ file ∷ acc ∷ den ∷ owner ∷ []) at.1
-        ∙ ap (λ (w : List ℕ). name_at (file_system_names head) z.0 ∷ file ∷ w ∷ den ∷ owner ∷ []) access.0
-        ∙ ap (λ (w : List ℕ). name_at (file_system_names head) z.0 ∷ file ∷ access_word x.0 ∷ w ∷ owner ∷ []) deny.0 in
+    ap (λ (w : List ℕ). w ∷ file ∷ acc ∷ den ∷ owner ∷ []) at.1
+    ∙ ap (λ (w : List ℕ). name_at (file_system_names head) z.0 ∷ file ∷ w ∷ den ∷ owner ∷ []) access.0
+    ∙ ap (λ (w : List ℕ). name_at (file_system_names head) z.0 ∷ file ∷ access_word x.0 ∷ w ∷ owner ∷ []) deny.0 in
     subst (λ (o : OpenAction). (f ∷ file ∷ acc ∷ den ∷ owner ∷ [] ≡ open_words head o) × IsOpen head o) g.1
     (same, record { fs = at.0; file = file_name_found file n.0; access_some = access.1; access_limit = access.2; deny_limit = deny.1; owner = name_found owner n.1 })
 
@@ -178,13 +178,13 @@ action_found head verb (f ∷ file ∷ acc ∷ den ∷ owner ∷ []) a e =
           let verb_is : verb ≡ codes "open" = same_word verb (codes "open") h.0 in
           subst P (ok_is (Open x.0) a x.2) (ap (λ (w : List ℕ). w ∷ words) verb_is ∙ ap (λ (ws : List (List ℕ)). codes "open" ∷ ws) p.0, p.1)
       | inr g ↦ elim (chosen (bytes_eq verb (codes "create")) (opens >>= λ o. Ok (Create o)) (Err why.Word) (Ok a) g.1) [
-          | inl h ↦
-              let x = bind_ok opens (λ o. done (Create o)) a h.1 in
-              let p = open_found head f file acc den owner x.0 x.1 in
-              let verb_is : verb ≡ codes "create" = same_word verb (codes "create") h.0 in
-              subst P (ok_is (Create x.0) a x.2) (ap (λ (w : List ℕ). w ∷ words) verb_is ∙ ap (λ (ws : List (List ℕ)). codes "create" ∷ ws) p.0, p.1)
-          | inr h ↦ absurd cc
-        ]
+        | inl h ↦
+            let x = bind_ok opens (λ o. done (Create o)) a h.1 in
+            let p = open_found head f file acc den owner x.0 x.1 in
+            let verb_is : verb ≡ codes "create" = same_word verb (codes "create") h.0 in
+            subst P (ok_is (Create x.0) a x.2) (ap (λ (w : List ℕ). w ∷ words) verb_is ∙ ap (λ (ws : List (List ℕ)). codes "create" ∷ ws) p.0, p.1)
+        | inr h ↦ absurd cc
+      ]
     ]
 action_found head verb (f ∷ file ∷ acc ∷ den ∷ owner ∷ more ∷ words) a e = absurd cc
 
@@ -222,11 +222,11 @@ run_found head (first ∷ words) line e =
           let p = do_found head words line h.1 in
           (ap (λ (w : List ℕ). w ∷ words) (same_word first (codes "do") h.0) ∙ p.0, p.1)
       | inr g ↦ elim (chosen (bytes_eq first (codes "show")) (show_at head words) (Err why.Word) (Ok line) g.1) [
-          | inl h ↦
-              let p = show_found head words line h.1 in
-              (ap (λ (w : List ℕ). w ∷ words) (same_word first (codes "show") h.0) ∙ p.0, p.1)
-          | inr h ↦ absurd cc
-        ]
+        | inl h ↦
+            let p = show_found head words line h.1 in
+            (ap (λ (w : List ℕ). w ∷ words) (same_word first (codes "show") h.0) ∙ p.0, p.1)
+        | inr h ↦ absurd cc
+      ]
     ]
 
 -- and what is spelled so is read
@@ -241,7 +241,7 @@ open_are_words : (head : Head) (a : OpenAction) → HasNames head → IsOpen hea
 open_are_words head a names is =
     (file_system_is_word head a.fs names is.fs, (file_name_is_word a.file is.file, (access_is_word a.access is.access_some is.access_limit, (deny_is_word a.deny is.deny_limit, (name_is_word a.owner is.owner, tt)))))
 
-keyword : (word : List ℕ) → 0 < length word → has_space word ≡ false → IsWord word
+pub keyword : (word : List ℕ) → 0 < length word → has_space word ≡ false → IsWord word
 keyword word some whole = record { some = some; whole = whole }
 
 pub run_are_words : (head : Head) (line : Line) → HasNames head → IsRun head line → AllByRecursion IsWord (run_words head line)
@@ -249,7 +249,14 @@ run_are_words head (Do client (Open a)) names is =
     (keyword (codes "do") (omega arith) refl, (client_is_word head client names is.0, (keyword (codes "open") (omega arith) refl, open_are_words head a names is.1)))
 run_are_words head (Do client (Create a)) names is =
     (keyword (codes "do") (omega arith) refl, (client_is_word head client names is.0, (keyword (codes "create") (omega arith) refl, open_are_words head a names is.1)))
-run_are_words head (Do client (Close a)) names is =
-    (keyword (codes "do") (omega arith) refl, (client_is_word head client names is.0, (keyword (codes "close") (omega arith) refl,
-    (file_system_is_word head a.fs names is.1.fs, (file_name_is_word a.file is.1.file, (name_is_word a.owner is.1.owner, tt))))))
+run_are_words head (Do client (Close a)) names is = (
+  keyword (codes "do") (omega arith) refl,
+  (
+    client_is_word head client names is.0,
+    (
+      keyword (codes "close") (omega arith) refl,
+      (file_system_is_word head a.fs names is.1.fs, (file_name_is_word a.file is.1.file, (name_is_word a.owner is.1.owner, tt))),
+    ),
+  ),
+)
 run_are_words head (Show fs) names is = (keyword (codes "show") (omega arith) refl, (file_system_is_word head fs names is, tt))

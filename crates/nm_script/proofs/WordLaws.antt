@@ -232,12 +232,12 @@ access_found word access e =
     elim (chosen (bytes_eq word (codes "r")) (Ok 1) _ (Ok access) e) [
       | inl r ↦ let is : 1 ≡ access = cc in subst P is (same_word word (codes "r") r.0, omega arith, omega arith)
       | inr f ↦ elim (chosen (bytes_eq word (codes "w")) (Ok 2) _ (Ok access) f.1) [
-          | inl w ↦ let is : 2 ≡ access = cc in subst P is (same_word word (codes "w") w.0, omega arith, omega arith)
-          | inr g ↦ elim (chosen (bytes_eq word (codes "rw")) (Ok 3) (Err Word) (Ok access) g.1) [
-              | inl b ↦ let is : 3 ≡ access = cc in subst P is (same_word word (codes "rw") b.0, omega arith, omega arith)
-              | inr h ↦ absurd cc
-            ]
+        | inl w ↦ let is : 2 ≡ access = cc in subst P is (same_word word (codes "w") w.0, omega arith, omega arith)
+        | inr g ↦ elim (chosen (bytes_eq word (codes "rw")) (Ok 3) (Err Word) (Ok access) g.1) [
+          | inl b ↦ let is : 3 ≡ access = cc in subst P is (same_word word (codes "rw") b.0, omega arith, omega arith)
+          | inr h ↦ absurd cc
         ]
+      ]
     ]
 
 pub access_again : (access : ℕ) → 1 ≤ access → access ≤ 3 → access_at (access_word access) ≡ Ok access
