@@ -1,3 +1,4 @@
+pub mod Grammar
 pub mod Outside
 pub mod Reading
 pub mod Text

@@ -1,5 +1,6 @@
 //! A whole script, from its first line to its last.
-ghost use Rattle.std.specs.Prelude.{◌≡◌, ◌∷◌, ◌<◌, ◌≤◌, length, IfOk, OnOk};
+ghost use Rattle.std.specs.Prelude.{◌≡◌, ◌∷◌, ◌<◌, ◌≤◌, length, Ok, IfOk, OnOk};
+ghost use Rattle.nm_script.specs.Grammar.{IsScript, IsWellFormed};
 ghost use Rattle.nm_script.specs.Reading as spec;
 ghost use Rattle.nm_script.specs.Reading.{Tells, IsFault};
 
@@ -101,15 +102,28 @@ fn fault_of_front(alloc: Global, front: &[u8]) -> ScriptFault
     }
 }
 
-/// Reads a script, or says which line is the first bad one, and why.
 #[tactic(auto, unfolding(crate::specs::Reading::script_at))]
-pub fn read_script(alloc: Global, bytes: &[u8]) -> Result<Script, ScriptFault>
-    // The script or the first fault, by reading from the first line to the last.
-    ensures exact { Tells result (spec.script_at bytes.now) }
+fn read_source(alloc: Global, bytes: &[u8]) -> Result<Script, ScriptFault>
+    ensures { Tells result (spec.script_at bytes.now) }
 {
     if bytes.len() > SOURCE_LIMIT {
         let (front, _) = bytes.split_at(SOURCE_LIMIT);
         return Err(fault_of_front(alloc, front));
     }
     read_whole(alloc, bytes)
+}
+
+/// Reads a script, or says which line is the first bad one, and why.
+pub fn read_script(alloc: Global, bytes: &[u8]) -> Result<Script, ScriptFault>
+    // The script is what the grammar spells.
+    ensures found { IfOk result (λ s. IsScript bytes.now s) }
+    // Bytes that spell a script are read as that script and no other, unless memory runs out.
+    ensures only { (s : Script) → IsScript bytes.now s → Tells result (Ok s) }
+    // Which fault it is: the first bad line, and the first of its faults.
+    ensures exact { Tells result (spec.script_at bytes.now) }
+    // What the program relies on.
+    ensures sound { IfOk result IsWellFormed }
+    ensures few { IfOk result (λ s. length s.lines ≤ 4000) }
+{
+    read_source(alloc, bytes)
 }

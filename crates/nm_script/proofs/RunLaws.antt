@@ -1,0 +1,262 @@
+-- Lines that are run, and the places that names have: what is read is what was spelled.
+use Rattle.std.proofs.Common.{◌≡◌, ℕ, zero, suc, ◌<◌, ◌≤◌, Bool, true, false, cond, not, ltb, List, [], ◌∷◌, ◌++◌, length, get_or, map, Option, Some, None, Result, Ok, Err, refl, sym, ap, subst, ◌∙◌, arith, ◌⊎◌, inl, inr}
+use Rattle.std.specs.Prelude.{◌||◌, ◌&&◌, codes, position}
+use Rattle.std.specs.List.{list_any, position_or_len, AllByRecursion}
+use Rattle.std.specs.Str.{bytes_eq}
+use Rattle.std.proofs.lemmas.Bool.{ltb-true, lt-ltb}
+use Rattle.std.proofs.lemmas.List.{get_or-map, length-map}
+use Rattle.std.proofs.lemmas.List.Sums.{position_or_len_is}
+use Rattle.std.proofs.lemmas.List.Quantifiers.{position-Some}
+use Rattle.nm_rules.specs.declared.action.Action.{Action}
+use Rattle.nm_rules.specs.declared.action.Action.TheVariants.{Open, Create, Close}
+use Rattle.nm_rules.specs.declared.action.OpenAction.{OpenAction}
+use Rattle.nm_rules.specs.declared.action.CloseAction.{CloseAction}
+use Rattle.nm_script.specs.declared.script.Head.{Head}
+use Rattle.nm_script.specs.declared.script.Line.{Line}
+use Rattle.nm_script.specs.declared.script.Line.TheVariants.{Do, Show}
+use Rattle.nm_script.specs.declared.script.Why.{Why}
+use Rattle.nm_script.specs.declared.script.Why.TheVariants as why
+use Rattle.nm_script.specs.Words.{is_name, is_file_name, access_at, deny_at}
+use Rattle.nm_script.specs.Grammar.{name_at, server_names, file_system_names, client_names, access_word, deny_word, open_words, close_words, action_words, run_words, all_differ, all_names, IsHead, IsOpen, IsClose, IsAction, IsRun}
+use Rattle.nm_script.specs.Reading.{◌>>=◌, place_below, server_number, file_system_number, client_number, open_action, close_action, action_at, do_at, show_of, show_at, run_line}
+use Rattle.nm_script.proofs.WordLaws.{or_false, and_true, not_true, chosen, same_word, word_itself, has_space, IsWord, name_found, name_again, name_is_word, file_name_found, file_name_again, file_name_is_word, access_found, access_again, access_is_word, deny_found, deny_again, deny_is_word}
+
+-- the value of a step that did not fail
+pub bind_ok : {A B E : Type 0} (r : Result A E) (f : A → Result B E) (y : B) → (r >>= f) ≡ Ok y → (x : A) × (r ≡ Ok x) × (f x ≡ Ok y)
+bind_ok (Ok x) f y e = (x, refl, e)
+bind_ok (Err d) f y e = absurd cc
+
+abbrev done : {A : Type 0} → A → Result A Why
+done x = Ok x
+
+pub ok_is : {A : Type 0} (x y : A) → done x ≡ done y → x ≡ y
+ok_is x y e = cc
+
+-- a test that did not fail
+pub guard_ok : {A : Type 0} (b : Bool) (w : Why) (x y : A) → cond b (done x) (Err w) ≡ Ok y → (b ≡ true) × (x ≡ y)
+guard_ok true w x y e = (refl, ok_is x y e)
+guard_ok false w x y e = absurd cc
+
+-- ---- places of names
+
+none_any : {X : Type 0} (p : X → Bool) (xs : List X) (k : ℕ) (d : X) → list_any p xs ≡ false → k < length xs → p (get_or xs k d) ≡ false
+none_any p [] k d none lt = absurd (omega arith)
+none_any p (x ∷ xs) zero d none lt = (or_false (p x) (list_any p xs) none).0
+none_any p (x ∷ xs) (suc k) d none lt = none_any p xs k d (or_false (p x) (list_any p xs) none).1 (omega arith)
+
+-- two names at two places differ
+pub differ_at : (names : List (List ℕ)) (i j : ℕ) → all_differ names ≡ true → i < j → j < length names → bytes_eq (get_or names i []) (get_or names j []) ≡ false
+differ_at [] i j h lt in' = absurd (omega arith)
+differ_at (n ∷ ns) i zero h lt in' = absurd (omega arith)
+differ_at (n ∷ ns) zero (suc j) h lt in' = none_any (bytes_eq n) ns j [] (not_true _ (and_true _ (all_differ ns) h).0) (omega arith)
+differ_at (n ∷ ns) (suc i) (suc j) h lt in' = differ_at ns i j (and_true (not (list_any (bytes_eq n) ns)) (all_differ ns) h).1 (omega arith) (omega arith)
+
+below_ok : (limit : ℕ) (o : Option ℕ) (k : ℕ) → place_below limit o ≡ Ok k → o ≡ Some k
+unfolding place_below
+below_ok limit None k e = absurd cc
+below_ok limit (Some place) k e = ap (λ n. Some n) (guard_ok (ltb place limit) why.Name place k e).1
+
+module _ {X : Type 0} (f : X → List ℕ) (d : X) where
+  -- a place that is found has that name
+  pub place_found : (limit : ℕ) (xs : List X) (word : List ℕ) (k : ℕ) → place_below limit (position (λ x. bytes_eq (f x) word) xs) ≡ Ok k → (k < length xs) × (word ≡ name_at (map f xs) k)
+  place_found limit xs word k e =
+      let at = position-Some (λ x. bytes_eq (f x) word) xs k d (below_ok limit _ k e) in
+      (at.0, sym (get_or-map f xs k d [] at.0 ∙ same_word _ word at.1))
+
+  -- a name among others is found in its place
+  pub place_again : (limit : ℕ) (xs : List X) (k : ℕ) → all_differ (map f xs) ≡ true → length xs ≤ limit → k < length xs → place_below limit (position (λ x. bytes_eq (f x) (name_at (map f xs) k)) xs) ≡ Ok k
+  unfolding place_below
+  place_again limit xs k differ few lt =
+      let names = map f xs in
+      let name = name_at names k in
+      let long : length names ≡ length xs = length-map xs f in
+      let here : (j : ℕ) → j < length xs → bytes_eq (f (get_or xs j d)) name ≡ bytes_eq (get_or names j []) name = λ j in'. ap (λ n. bytes_eq n name) (sym (get_or-map f xs j d [] in')) in
+      let is : position_or_len (λ x. bytes_eq (f x) name) xs ≡ k =
+      position_or_len_is (λ x. bytes_eq (f x) name) xs k d (omega arith)
+      (λ j before. here j (omega arith) ∙ differ_at names j k differ before (omega arith))
+      (λ in'. here k in' ∙ word_itself name) in
+      rw (is, lt-ltb k (length xs) lt, lt-ltb k limit (omega arith)) refl
+
+-- ---- the parts of a head that lines need
+
+pub record HasNames (head : Head) : Type 0 where
+  pub file_systems : all_differ (file_system_names head) ≡ true
+  pub clients : all_differ (client_names head) ≡ true
+  pub file_systems_few : length head.file_systems ≤ 64
+  pub clients_few : length head.clients ≤ 64
+  pub file_system_words : AllByRecursion IsWord (file_system_names head)
+  pub client_words : AllByRecursion IsWord (client_names head)
+
+file_system_found : (head : Head) (word : List ℕ) (k : ℕ) → file_system_number head word ≡ Ok k → (k < length head.file_systems) × (word ≡ name_at (file_system_names head) k)
+file_system_found head word k e = place_found (λ row. row.name) (record { name = []; at = 0 }) 64 head.file_systems word k e
+
+file_system_again : (head : Head) (k : ℕ) → HasNames head → k < length head.file_systems → file_system_number head (name_at (file_system_names head) k) ≡ Ok k
+file_system_again head k names lt = place_again (λ row. row.name) (record { name = []; at = 0 }) 64 head.file_systems k names.file_systems names.file_systems_few lt
+
+client_found : (head : Head) (word : List ℕ) (k : ℕ) → client_number head word ≡ Ok k → (k < length head.clients) × (word ≡ name_at (client_names head) k)
+client_found head word k e = place_found (λ row. row.name) (record { name = []; verifier = 0 }) 64 head.clients word k e
+
+client_again : (head : Head) (k : ℕ) → HasNames head → k < length head.clients → client_number head (name_at (client_names head) k) ≡ Ok k
+client_again head k names lt = place_again (λ row. row.name) (record { name = []; verifier = 0 }) 64 head.clients k names.clients names.clients_few lt
+
+pub word_in : (names : List (List ℕ)) (k : ℕ) → AllByRecursion IsWord names → k < length names → IsWord (name_at names k)
+word_in [] k are lt = absurd (omega arith)
+word_in (n ∷ ns) zero are lt = are.0
+word_in (n ∷ ns) (suc k) are lt = word_in ns k are.1 (omega arith)
+
+file_system_is_word : (head : Head) (k : ℕ) → HasNames head → k < length head.file_systems → IsWord (name_at (file_system_names head) k)
+file_system_is_word head k names lt = word_in (file_system_names head) k names.file_system_words (omega (arith, length-map head.file_systems (λ row. row.name)))
+
+client_is_word : (head : Head) (k : ℕ) → HasNames head → k < length head.clients → IsWord (name_at (client_names head) k)
+client_is_word head k names lt = word_in (client_names head) k names.client_words (omega (arith, length-map head.clients (λ row. row.name)))
+
+-- ---- actions
+
+open_found : (head : Head) (f file acc den owner : List ℕ) (a : OpenAction) → open_action head f file acc den owner ≡ Ok a → (f ∷ file ∷ acc ∷ den ∷ owner ∷ [] ≡ open_words head a) × IsOpen head a
+unfolding open_action
+open_found head f file acc den owner a e =
+    let made : ℕ → ℕ → ℕ → OpenAction = λ access deny fs. record { fs = fs; file = file; access = access; deny = deny; owner = owner } in
+    let last : ℕ → ℕ → ℕ → Result OpenAction Why = λ access deny fs. cond (is_file_name file && is_name owner) (Ok (made access deny fs)) (Err why.Name) in
+    let x = bind_ok (access_at acc) (λ access. deny_at den >>= λ deny. file_system_number head f >>= λ fs. last access deny fs) a e in
+    let y = bind_ok (deny_at den) (λ deny. file_system_number head f >>= λ fs. last x.0 deny fs) a x.2 in
+    let z = bind_ok (file_system_number head f) (λ fs. last x.0 y.0 fs) a y.2 in
+    let g = guard_ok (is_file_name file && is_name owner) why.Name (made x.0 y.0 z.0) a z.2 in
+    let n = and_true (is_file_name file) (is_name owner) g.0 in
+    let access = access_found acc x.0 x.1 in
+    let deny = deny_found den y.0 y.1 in
+    let at = file_system_found head f z.0 z.1 in
+    let same : f ∷ file ∷ acc ∷ den ∷ owner ∷ [] ≡ open_words head (made x.0 y.0 z.0) =
+    ap (λ (w : List ℕ). w ∷ file ∷ acc ∷ den ∷ owner ∷ []) at.1
+    ∙ ap (λ (w : List ℕ). name_at (file_system_names head) z.0 ∷ file ∷ w ∷ den ∷ owner ∷ []) access.0
+    ∙ ap (λ (w : List ℕ). name_at (file_system_names head) z.0 ∷ file ∷ access_word x.0 ∷ w ∷ owner ∷ []) deny.0 in
+    subst (λ (o : OpenAction). (f ∷ file ∷ acc ∷ den ∷ owner ∷ [] ≡ open_words head o) × IsOpen head o) g.1
+    (same, record { fs = at.0; file = file_name_found file n.0; access_some = access.1; access_limit = access.2; deny_limit = deny.1; owner = name_found owner n.1 })
+
+open_again : (head : Head) (a : OpenAction) → HasNames head → IsOpen head a → open_action head (name_at (file_system_names head) a.fs) a.file (access_word a.access) (deny_word a.deny) a.owner ≡ Ok a
+unfolding open_action
+open_again head a names is =
+    rw (access_again a.access is.access_some is.access_limit, deny_again a.deny is.deny_limit, file_system_again head a.fs names is.fs, file_name_again a.file is.file, name_again a.owner is.owner) refl
+
+close_found : (head : Head) (f file owner : List ℕ) (a : CloseAction) → close_action head f file owner ≡ Ok a → (f ∷ file ∷ owner ∷ [] ≡ close_words head a) × IsClose head a
+unfolding close_action
+close_found head f file owner a e =
+    let x = bind_ok (file_system_number head f) (λ fs. cond (is_file_name file && is_name owner) (done (record { fs = fs; file = file; owner = owner })) (Err why.Name)) a e in
+    let g = guard_ok (is_file_name file && is_name owner) why.Name (record { fs = x.0; file = file; owner = owner }) a x.2 in
+    let n = and_true (is_file_name file) (is_name owner) g.0 in
+    let at = file_system_found head f x.0 x.1 in
+    subst (λ (c : CloseAction). (f ∷ file ∷ owner ∷ [] ≡ close_words head c) × IsClose head c) g.1
+    (ap (λ (w : List ℕ). w ∷ file ∷ owner ∷ []) at.1, record { fs = at.0; file = file_name_found file n.0; owner = name_found owner n.1 })
+
+close_again : (head : Head) (a : CloseAction) → HasNames head → IsClose head a → close_action head (name_at (file_system_names head) a.fs) a.file a.owner ≡ Ok a
+unfolding close_action
+close_again head a names is = rw (file_system_again head a.fs names is.fs, file_name_again a.file is.file, name_again a.owner is.owner) refl
+
+action_found : (head : Head) (verb : List ℕ) (words : List (List ℕ)) (a : Action) → action_at head verb words ≡ Ok a → (verb ∷ words ≡ action_words head a) × IsAction head a
+unfolding action_at
+action_found head verb [] a e = absurd cc
+action_found head verb (f ∷ []) a e = absurd cc
+action_found head verb (f ∷ file ∷ []) a e = absurd cc
+action_found head verb (f ∷ file ∷ owner ∷ []) a e =
+    elim (chosen (bytes_eq verb (codes "close")) (close_action head f file owner >>= λ c. Ok (Close c)) (Err why.Word) (Ok a) e) [
+      | inl h ↦
+          let x = bind_ok (close_action head f file owner) (λ c. done (Close c)) a h.1 in
+          let p = close_found head f file owner x.0 x.1 in
+          let verb_is : verb ≡ codes "close" = same_word verb (codes "close") h.0 in
+          subst (λ (o : Action). (verb ∷ f ∷ file ∷ owner ∷ [] ≡ action_words head o) × IsAction head o) (ok_is (Close x.0) a x.2)
+          (ap (λ (w : List ℕ). w ∷ f ∷ file ∷ owner ∷ []) verb_is ∙ ap (λ (ws : List (List ℕ)). codes "close" ∷ ws) p.0, p.1)
+      | inr h ↦ absurd cc
+    ]
+action_found head verb (f ∷ file ∷ acc ∷ den ∷ []) a e = absurd cc
+action_found head verb (f ∷ file ∷ acc ∷ den ∷ owner ∷ []) a e =
+    let words : List (List ℕ) = f ∷ file ∷ acc ∷ den ∷ owner ∷ [] in
+    let P : Action → Type 0 = λ o. (verb ∷ words ≡ action_words head o) × IsAction head o in
+    let opens = open_action head f file acc den owner in
+    elim (chosen (bytes_eq verb (codes "open")) (opens >>= λ o. Ok (Open o)) _ (Ok a) e) [
+      | inl h ↦
+          let x = bind_ok opens (λ o. done (Open o)) a h.1 in
+          let p = open_found head f file acc den owner x.0 x.1 in
+          let verb_is : verb ≡ codes "open" = same_word verb (codes "open") h.0 in
+          subst P (ok_is (Open x.0) a x.2) (ap (λ (w : List ℕ). w ∷ words) verb_is ∙ ap (λ (ws : List (List ℕ)). codes "open" ∷ ws) p.0, p.1)
+      | inr g ↦ elim (chosen (bytes_eq verb (codes "create")) (opens >>= λ o. Ok (Create o)) (Err why.Word) (Ok a) g.1) [
+        | inl h ↦
+            let x = bind_ok opens (λ o. done (Create o)) a h.1 in
+            let p = open_found head f file acc den owner x.0 x.1 in
+            let verb_is : verb ≡ codes "create" = same_word verb (codes "create") h.0 in
+            subst P (ok_is (Create x.0) a x.2) (ap (λ (w : List ℕ). w ∷ words) verb_is ∙ ap (λ (ws : List (List ℕ)). codes "create" ∷ ws) p.0, p.1)
+        | inr h ↦ absurd cc
+      ]
+    ]
+action_found head verb (f ∷ file ∷ acc ∷ den ∷ owner ∷ more ∷ words) a e = absurd cc
+
+-- ---- lines
+
+do_found : (head : Head) (words : List (List ℕ)) (line : Line) → do_at head words ≡ Ok line → (codes "do" ∷ words ≡ run_words head line) × IsRun head line
+unfolding do_at
+do_found head [] line e = absurd cc
+do_found head (c ∷ []) line e = absurd cc
+do_found head (c ∷ verb ∷ words) line e =
+    let x = bind_ok (action_at head verb words) (λ a. client_number head c >>= λ client. done (Do client a)) line e in
+    let y = bind_ok (client_number head c) (λ client. done (Do client x.0)) line x.2 in
+    let action = action_found head verb words x.0 x.1 in
+    let at = client_found head c y.0 y.1 in
+    subst (λ (l : Line). (codes "do" ∷ c ∷ verb ∷ words ≡ run_words head l) × IsRun head l) (ok_is (Do y.0 x.0) line y.2)
+    (ap (λ (w : List ℕ). codes "do" ∷ w ∷ verb ∷ words) at.1 ∙ ap (λ (ws : List (List ℕ)). codes "do" ∷ name_at (client_names head) y.0 ∷ ws) action.0, (at.0, action.1))
+
+show_found : (head : Head) (words : List (List ℕ)) (line : Line) → show_at head words ≡ Ok line → (codes "show" ∷ words ≡ run_words head line) × IsRun head line
+unfolding show_at show_of
+show_found head [] line e = absurd cc
+show_found head (f ∷ []) line e =
+    let x = bind_ok (file_system_number head f) (λ fs. done (Show fs)) line e in
+    let at = file_system_found head f x.0 x.1 in
+    subst (λ (l : Line). (codes "show" ∷ f ∷ [] ≡ run_words head l) × IsRun head l) (ok_is (Show x.0) line x.2)
+    (ap (λ (w : List ℕ). codes "show" ∷ w ∷ []) at.1, at.0)
+show_found head (f ∷ more ∷ words) line e = absurd cc
+
+-- a line that is read is spelled so
+pub run_found : (head : Head) (words : List (List ℕ)) (line : Line) → run_line head words ≡ Ok line → (words ≡ run_words head line) × IsRun head line
+unfolding run_line
+run_found head [] line e = absurd cc
+run_found head (first ∷ words) line e =
+    elim (chosen (bytes_eq first (codes "do")) (do_at head words) _ (Ok line) e) [
+      | inl h ↦
+          let p = do_found head words line h.1 in
+          (ap (λ (w : List ℕ). w ∷ words) (same_word first (codes "do") h.0) ∙ p.0, p.1)
+      | inr g ↦ elim (chosen (bytes_eq first (codes "show")) (show_at head words) (Err why.Word) (Ok line) g.1) [
+        | inl h ↦
+            let p = show_found head words line h.1 in
+            (ap (λ (w : List ℕ). w ∷ words) (same_word first (codes "show") h.0) ∙ p.0, p.1)
+        | inr h ↦ absurd cc
+      ]
+    ]
+
+-- and what is spelled so is read
+pub run_again : (head : Head) (line : Line) → HasNames head → IsRun head line → run_line head (run_words head line) ≡ Ok line
+unfolding run_line do_at show_at show_of action_at
+run_again head (Do client (Open a)) names is = rw (open_again head a names is.1, client_again head client names is.0) refl
+run_again head (Do client (Create a)) names is = rw (open_again head a names is.1, client_again head client names is.0) refl
+run_again head (Do client (Close a)) names is = rw (close_again head a names is.1, client_again head client names is.0) refl
+run_again head (Show fs) names is = rw (file_system_again head fs names is) refl
+
+open_are_words : (head : Head) (a : OpenAction) → HasNames head → IsOpen head a → AllByRecursion IsWord (open_words head a)
+open_are_words head a names is =
+    (file_system_is_word head a.fs names is.fs, (file_name_is_word a.file is.file, (access_is_word a.access is.access_some is.access_limit, (deny_is_word a.deny is.deny_limit, (name_is_word a.owner is.owner, tt)))))
+
+pub keyword : (word : List ℕ) → 0 < length word → has_space word ≡ false → IsWord word
+keyword word some whole = record { some = some; whole = whole }
+
+pub run_are_words : (head : Head) (line : Line) → HasNames head → IsRun head line → AllByRecursion IsWord (run_words head line)
+run_are_words head (Do client (Open a)) names is =
+    (keyword (codes "do") (omega arith) refl, (client_is_word head client names is.0, (keyword (codes "open") (omega arith) refl, open_are_words head a names is.1)))
+run_are_words head (Do client (Create a)) names is =
+    (keyword (codes "do") (omega arith) refl, (client_is_word head client names is.0, (keyword (codes "create") (omega arith) refl, open_are_words head a names is.1)))
+run_are_words head (Do client (Close a)) names is = (
+  keyword (codes "do") (omega arith) refl,
+  (
+    client_is_word head client names is.0,
+    (
+      keyword (codes "close") (omega arith) refl,
+      (file_system_is_word head a.fs names is.1.fs, (file_name_is_word a.file is.1.file, (name_is_word a.owner is.1.owner, tt))),
+    ),
+  ),
+)
+run_are_words head (Show fs) names is = (keyword (codes "show") (omega arith) refl, (file_system_is_word head fs names is, tt))

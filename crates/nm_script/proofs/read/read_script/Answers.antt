@@ -1,0 +1,14 @@
+use Rattle.nm_script.proofs.ScriptLaws.{found, sound, few, only}
+use Rattle.nm_script.proofs.read.read_script.Goals as goal
+
+pub returns-clause-found : goal.returns-clause-found
+returns-clause-found c = found c.args.bytes.now c.read_source.result c.read_source.ensures
+
+pub returns-clause-only : goal.returns-clause-only
+returns-clause-only c = only c.args.bytes.now c.read_source.result c.read_source.ensures
+
+pub returns-clause-sound : goal.returns-clause-sound
+returns-clause-sound c = sound c.args.bytes.now c.read_source.result c.read_source.ensures
+
+pub returns-clause-few : goal.returns-clause-few
+returns-clause-few c = few c.args.bytes.now c.read_source.result c.read_source.ensures

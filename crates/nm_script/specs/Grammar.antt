@@ -1,0 +1,179 @@
+-- The grammar of scripts: which bytes spell which script.
+use Rattle.std.specs.Prelude.{◌≡◌, ℕ, ◌^◌, ◌<◌, ◌≤◌, Bool, true, false, not, ◌&&◌, ◌||◌, ◌==◌, List, [], ◌∷◌, ◌++◌, length, map, filter, All, slice_index_or, if◌then◌else◌, codes, IsTrue}
+use Rattle.std.specs.List.{list_any, list_all, join_with_byte}
+use Rattle.std.specs.Str.{bytes_eq}
+use Rattle.std.specs.Fmt.{decimal}
+use Rattle.nm_rules.specs.declared.action.Action.{Action}
+use Rattle.nm_rules.specs.declared.action.Action.TheVariants.{Open, Create, Close}
+use Rattle.nm_rules.specs.declared.action.OpenAction.{OpenAction}
+use Rattle.nm_rules.specs.declared.action.CloseAction.{CloseAction}
+use Rattle.nm_script.specs.declared.script.ServerRow.{ServerRow}
+use Rattle.nm_script.specs.declared.script.FsRow.{FsRow}
+use Rattle.nm_script.specs.declared.script.ClientRow.{ClientRow}
+use Rattle.nm_script.specs.declared.script.Head.{Head}
+use Rattle.nm_script.specs.declared.script.Line.{Line}
+use Rattle.nm_script.specs.declared.script.Line.TheVariants.{Do, Show}
+use Rattle.nm_script.specs.declared.script.Script.{Script}
+use Rattle.nm_script.specs.Words.{says_something, is_printable, is_name_byte}
+
+-- ---- how bytes are lines
+
+-- Each line ends at its line feed; the last line feed may be missing, where something stands before it.
+pub data IsLines : List ℕ → List (List ℕ) → Type 0 where
+  no_line : IsLines [] []
+  last_line : {line : List ℕ} → 0 < length line → list_any (λ b. b == 10) line ≡ false → IsLines line (line ∷ [])
+  next_line : {line rest : List ℕ} {lines : List (List ℕ)} → list_any (λ b. b == 10) line ≡ false → IsLines rest lines → IsLines (line ++ 10 ∷ rest) (line ∷ lines)
+
+-- ---- how a script is lines, each of them the words of it
+
+-- a number stands for the name in that place
+abbrev pub name_at : List (List ℕ) → ℕ → List ℕ
+name_at names number = slice_index_or names number []
+
+abbrev pub server_names : Head → List (List ℕ)
+server_names head = map (λ row. row.name) head.servers
+
+abbrev pub file_system_names : Head → List (List ℕ)
+file_system_names head = map (λ row. row.name) head.file_systems
+
+abbrev pub client_names : Head → List (List ℕ)
+client_names head = map (λ row. row.name) head.clients
+
+-- ACC
+abbrev pub access_word : ℕ → List ℕ
+access_word access = if access == 1 then codes "r" else if access == 2 then codes "w" else codes "rw"
+
+-- DENY
+abbrev pub deny_word : ℕ → List ℕ
+deny_word deny = if deny == 0 then codes "none" else access_word deny
+
+-- F FILE ACC DENY OWNER
+abbrev pub open_words : Head → OpenAction → List (List ℕ)
+open_words head a = name_at (file_system_names head) a.fs ∷ a.file ∷ access_word a.access ∷ deny_word a.deny ∷ a.owner ∷ []
+
+-- F FILE OWNER
+abbrev pub close_words : Head → CloseAction → List (List ℕ)
+close_words head a = name_at (file_system_names head) a.fs ∷ a.file ∷ a.owner ∷ []
+
+-- open F FILE ACC DENY OWNER, create F FILE ACC DENY OWNER, close F FILE OWNER
+abbrev pub action_words : Head → Action → List (List ℕ)
+action_words head (Open a) = codes "open" ∷ open_words head a
+action_words head (Create a) = codes "create" ∷ open_words head a
+action_words head (Close a) = codes "close" ∷ close_words head a
+
+-- do C ACTION, show F
+abbrev pub run_words : Head → Line → List (List ℕ)
+run_words head (Do client action) = codes "do" ∷ name_at (client_names head) client ∷ action_words head action
+run_words head (Show fs) = codes "show" ∷ name_at (file_system_names head) fs ∷ []
+
+-- nfsmove 1
+abbrev pub version_words : List (List ℕ)
+version_words = codes "nfsmove" ∷ codes "1" ∷ []
+
+-- lease N
+abbrev pub lease_words : ℕ → List (List ℕ)
+lease_words seconds = codes "lease" ∷ decimal seconds ∷ []
+
+-- server NAME
+abbrev pub server_words : ServerRow → List (List ℕ)
+server_words row = codes "server" ∷ row.name ∷ []
+
+-- fs NAME at SERVER
+abbrev pub file_system_words : Head → FsRow → List (List ℕ)
+file_system_words head row = codes "fs" ∷ row.name ∷ codes "at" ∷ name_at (server_names head) row.at ∷ []
+
+-- client NAME VERIFIER
+abbrev pub client_words : ClientRow → List (List ℕ)
+client_words row = codes "client" ∷ row.name ∷ decimal row.verifier ∷ []
+
+-- the head in its order, and then the lines that are run
+abbrev pub script_words : Script → List (List (List ℕ))
+script_words s =
+    version_words ∷ lease_words s.head.lease ∷ map server_words s.head.servers
+    ++ map (file_system_words s.head) s.head.file_systems
+    ++ map client_words s.head.clients
+    ++ map (run_words s.head) s.lines
+
+-- the words of a line stand apart by one space
+abbrev pub line_of : List (List ℕ) → List ℕ
+line_of words = join_with_byte 32 words
+
+-- ---- what is in its form and its bounds
+
+-- 1 to 16 letters, digits, - or _
+pub record IsName (name : List ℕ) : Type 0 where
+  pub some : 1 ≤ length name
+  pub short : length name ≤ 16
+  pub bytes : list_all is_name_byte name ≡ true
+
+-- 1 to 64 letters, digits, -, _ or ., but not . or ..
+pub record IsFileName (name : List ℕ) : Type 0 where
+  pub some : 1 ≤ length name
+  pub short : length name ≤ 64
+  pub bytes : list_all (λ b. is_name_byte b || b == 46) name ≡ true
+  pub not_dot : bytes_eq name (codes ".") ≡ false
+  pub not_dots : bytes_eq name (codes "..") ≡ false
+
+-- no name is equal to one behind it
+abbrev pub all_differ : List (List ℕ) → Bool
+all_differ [] = true
+all_differ (name ∷ names) = not (list_any (bytes_eq name) names) && all_differ names
+
+-- servers, file systems and clients
+abbrev pub all_names : Head → List (List ℕ)
+all_names head = server_names head ++ file_system_names head ++ client_names head
+
+pub record IsHead (head : Head) : Type 0 where
+  pub lease_some : 1 ≤ head.lease
+  pub lease_limit : head.lease ≤ 3600
+  pub server : length head.servers ≡ 1
+  pub file_systems : length head.file_systems ≤ 1
+  pub clients : length head.clients ≤ 64
+  pub names : All IsName (all_names head)
+  pub differ : all_differ (all_names head) ≡ true
+  pub at : All (λ row. row.at < length head.servers) head.file_systems
+  pub verifiers : All (λ row. row.verifier < 2 ^ 64) head.clients
+
+pub record IsOpen (head : Head) (a : OpenAction) : Type 0 where
+  pub fs : a.fs < length head.file_systems
+  pub file : IsFileName a.file
+  pub access_some : 1 ≤ a.access
+  pub access_limit : a.access ≤ 3
+  pub deny_limit : a.deny ≤ 3
+  pub owner : IsName a.owner
+
+pub record IsClose (head : Head) (a : CloseAction) : Type 0 where
+  pub fs : a.fs < length head.file_systems
+  pub file : IsFileName a.file
+  pub owner : IsName a.owner
+
+abbrev pub IsAction : Head → Action → Type 0
+IsAction head (Open a) = IsOpen head a
+IsAction head (Create a) = IsOpen head a
+IsAction head (Close a) = IsClose head a
+
+abbrev pub IsRun : Head → Line → Type 0
+IsRun head (Do client action) = (client < length head.clients) × IsAction head action
+IsRun head (Show fs) = fs < length head.file_systems
+
+-- each number is in its bounds and stands for something, and each name is in its form and given once
+pub record IsWellFormed (s : Script) : Type 0 where
+  pub head : IsHead s.head
+  pub lines : All (IsRun s.head) s.lines
+
+-- ---- scripts
+
+-- at most 4,096 bytes from 0x20 to 0x7e
+pub record IsSourceLine (line : List ℕ) : Type 0 where
+  pub short : length line ≤ 4096
+  pub printable : is_printable line ≡ true
+
+-- The bytes spell the script: of their lines those that say something are its lines, in order.
+pub record IsScript (bytes : List ℕ) (s : Script) : Type 0 where
+  pub lines : List (List ℕ)
+  pub split : IsLines bytes lines
+  pub size : length bytes ≤ 2 ^ 24
+  pub count : length lines ≤ 4000
+  pub each : All IsSourceLine lines
+  pub spelled : filter says_something lines ≡ map line_of (script_words s)
+  pub fits : IsWellFormed s
