@@ -1,6 +1,8 @@
 -- The run over the tables is the run over the entries.
-use Rattle.std.proofs.Common.{◌≡◌, ℕ, false, List, [], ◌∷◌, ◌++◌, Option, Some, None, refl, ap, sym, ◌∙◌}
-use Rattle.std.specs.Prelude.{slice_get, flat_map}
+use Rattle.std.proofs.Common.{◌≡◌, ◌<◌, ◌≤◌, ◌+◌, ℕ, false, List, [], ◌∷◌, ◌++◌, drop, length, get_or, append_assoc, add-one, Option, Some, None, refl, ap, sym, ◌∙◌, arith}
+use Rattle.std.proofs.lemmas.List.{append-nil, drop_all}
+use Rattle.std.proofs.Math.Seq.{drop-cons}
+use Rattle.std.specs.Prelude.{slice_get}
 use Rattle.nm_rules.specs.Seen.{seen}
 use Rattle.nm_rules.specs.declared.action.Action.{Action}
 use Rattle.nm_rules.specs.declared.calls.Call.{Call}
@@ -9,6 +11,7 @@ use Rattle.nm_script.specs.declared.script.Head.{Head}
 use Rattle.nm_script.specs.declared.script.Script.{Script}
 use Rattle.nm_script.specs.declared.script.Line.{Line}
 use Rattle.nm_script.specs.declared.script.Line.TheVariants.{Do, Show}
+use Rattle.nm_script.specs.declared.report.ReportRow.{ReportRow}
 use Rattle.nm_script.specs.Text.{report_text, text_of}
 use Rattle.nm_cmd.specs.ShortRun.{RunNow, Ran, knows_nothing, call_of, ran_call, ran_client, run_line, reports, short_run}
 use Rattle.nm_cmd.specs.Tables.{TablesNow, Step, told_call, told_client, told_line, text_from, tables_of, no_tables}
@@ -45,3 +48,24 @@ text_same head r (line ∷ lines) =
 pub text_of_script : (s : Script) → text_from s.head no_tables s.lines ≡ text_of (short_run s)
 unfolding short_run seen
 text_of_script s = text_same s.head (record { past = []; known = knows_nothing }) s.lines
+
+-- One more line: its text comes behind that of the lines before it.
+pub text_next : (head : Head) (t : TablesNow) (lines : List Line) (i : ℕ) (line : Line) (rows : List ReportRow) (next : TablesNow) (text whole : List ℕ)
+    → i < length lines → line ≡ get_or lines i line → told_line head t line ≡ record { rows = rows; next = next }
+    → text ++ text_from head t (drop i lines) ≡ whole
+    → (text ++ report_text rows) ++ text_from head next (drop (i + 1) lines) ≡ whole
+unfolding text_from
+text_next head t lines i line rows next text whole below it step told =
+    let rest : List Line = drop (i + 1) lines in
+    let split : drop i lines ≡ line ∷ rest = drop-cons lines i line below ∙ rw (← it, add-one) refl in
+    append_assoc text (report_text rows) (text_from head next rest)
+    ∙ ap (λ (s : Step). text ++ (report_text s.rows ++ text_from head s.next rest)) (sym step)
+    ∙ ap (λ ls. text ++ text_from head t ls) (sym split)
+    ∙ told
+
+-- after the last line the text is whole
+pub text_done : (head : Head) (t : TablesNow) (lines : List Line) (i : ℕ) (text whole : List ℕ) → length lines ≤ i
+    → text ++ text_from head t (drop i lines) ≡ whole → text ≡ whole
+unfolding text_from
+text_done head t lines i text whole past told =
+    sym (append-nil text) ∙ ap (λ ls. text ++ text_from head t ls) (sym (drop_all i lines past)) ∙ told

@@ -3,6 +3,8 @@
 
 mod clients;
 mod file_system;
+mod replay;
+mod run;
 mod tree;
 
 fn main() {}

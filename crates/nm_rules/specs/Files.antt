@@ -1,5 +1,5 @@
 -- Files by their names.
-use Rattle.std.specs.Prelude.{◌==◌, ℕ, ◌+◌, Bool, List, [], ◌∷◌, ◌++◌, Option, Some, None, find, option_map, if◌then◌else◌}
+use Rattle.std.specs.Prelude.{◌==◌, ℕ, ◌+◌, Bool, List, [], ◌∷◌, ◌++◌, Option, Some, None, find, option_map, unwrap_or, if◌then◌else◌}
 use Rattle.std.specs.Str.{bytes_eq}
 use Rattle.nm_rules.specs.declared.rows.FileRow.{FileRow}
 
@@ -17,8 +17,7 @@ file_at name rows = option_map (λ row. row.number) (find (is_named name) rows)
 
 -- the name of the file with that number, and no bytes where there is none
 unfoldable pub name_at : ℕ → List FileRow → List ℕ
-name_at number [] = []
-name_at number (row ∷ rows) = if row.number == number then row.name else name_at number rows
+name_at number rows = unwrap_or (option_map (λ row. row.name) (find (λ row. row.number == number) rows)) []
 
 -- The file, where one was made, comes last.
 unfoldable pub tree_after : Option FileRow → TreeNow → TreeNow
