@@ -119,9 +119,9 @@ client_number head name = place_below 64 (client_place head name)
 -- ---- lines that are run: the keywords come before the names
 
 unfoldable pub open_action : Head → List ℕ → List ℕ → List ℕ → List ℕ → List ℕ → Result OpenAction Why
-open_action head f file acc den owner = do
-  access ← access_at acc
-  deny ← deny_at den
+open_action head f file access_word deny_word owner = do
+  access ← access_at access_word
+  deny ← deny_at deny_word
   fs ← file_system_number head f
   if is_file_name file && is_name owner
       then Ok (record { fs = fs; file = file; access = access; deny = deny; owner = owner })
@@ -133,9 +133,9 @@ close_action head f file owner = do
   if is_file_name file && is_name owner then Ok (record { fs = fs; file = file; owner = owner }) else Err why.Name
 
 unfoldable pub action_at : Head → List ℕ → List (List ℕ) → Result Action Why
-action_at head verb (f ∷ file ∷ acc ∷ den ∷ owner ∷ []) =
-    if bytes_eq verb (codes "open") then (open_action head f file acc den owner >>= λ a. Ok (Open a)) else
-    if bytes_eq verb (codes "create") then (open_action head f file acc den owner >>= λ a. Ok (Create a)) else
+action_at head verb (f ∷ file ∷ access_word ∷ deny_word ∷ owner ∷ []) =
+    if bytes_eq verb (codes "open") then (open_action head f file access_word deny_word owner >>= λ a. Ok (Open a)) else
+    if bytes_eq verb (codes "create") then (open_action head f file access_word deny_word owner >>= λ a. Ok (Create a)) else
     Err why.Word
 action_at head verb (f ∷ file ∷ owner ∷ []) =
     if bytes_eq verb (codes "close") then (close_action head f file owner >>= λ a. Ok (Close a)) else Err why.Word

@@ -121,9 +121,12 @@ pub fn read_script(alloc: Global, bytes: &[u8]) -> Result<Script, ScriptFault>
     ensures only { (s : Script) → IsScript bytes.now s → Tells result (Ok s) }
     // Which fault it is: the first bad line, and the first of its faults.
     ensures exact { Tells result (spec.script_at bytes.now) }
-    // What the program relies on.
+    // Its numbers are in their bounds and stand for something, and its names are in their form and given once.
     ensures sound { IfOk result IsWellFormed }
-    ensures few { IfOk result (λ s. length s.lines ≤ 4000) }
+    ensures few_lines { IfOk result (λ s. length s.lines ≤ 4000) }
 {
     read_source(alloc, bytes)
 }
+
+#[cfg(test)]
+mod tests;

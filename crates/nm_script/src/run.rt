@@ -83,14 +83,14 @@ fn open_action(
     head: &Head,
     fs: &[u8],
     file: &[u8],
-    acc: &[u8],
-    den: &[u8],
+    access_word: &[u8],
+    deny_word: &[u8],
     owner: &[u8],
 ) -> Result<OpenAction, LineFault>
-    ensures { Gives result (spec.open_action head.now fs.now file.now acc.now den.now owner.now) }
+    ensures { Gives result (spec.open_action head.now fs.now file.now access_word.now deny_word.now owner.now) }
 {
-    let access = access(acc)?;
-    let deny = deny(den)?;
+    let access = access(access_word)?;
+    let deny = deny(deny_word)?;
     let fs = file_system_number(head, fs)?;
     if !is_file_name(file) || !is_name(owner) {
         return Err(LineFault::Bad(Why::Name));

@@ -10,5 +10,5 @@ returns-clause-only c = only c.args.bytes.now c.read_source.result c.read_source
 pub returns-clause-sound : goal.returns-clause-sound
 returns-clause-sound c = sound c.args.bytes.now c.read_source.result c.read_source.ensures
 
-pub returns-clause-few : goal.returns-clause-few
-returns-clause-few c = few c.args.bytes.now c.read_source.result c.read_source.ensures
+pub returns-clause-few_lines : goal.returns-clause-few_lines
+returns-clause-few_lines c = few c.args.bytes.now c.read_source.result c.read_source.ensures
