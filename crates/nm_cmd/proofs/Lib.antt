@@ -1,3 +1,4 @@
 pub mod OpeningLemmas
+pub mod ReplayLaws
 pub mod RoomLaws
 pub mod RunLaws
