@@ -45,14 +45,14 @@ made_same (Some file) tree name = refl
 -- a file is made just where its name isn't there, with the next number
 tree-opened : (s : Seen) (args : OpenArgs)
     → tree_after (cond (is_none (file_at (claimed_name args.claim) s.tree.table)) (Some (record { number = file_to_open s args; name = claimed_name args.claim })) None) s.tree
-        ≡ with_file (claimed_name args.claim) s.tree
+    ≡ with_file (claimed_name args.claim) s.tree
 unfolding file_to_open with_file
 tree-opened s args = made_same (file_at (claimed_name args.claim) s.tree.table) s.tree (claimed_name args.claim)
 
 -- An OPEN that nothing stops leaves its file and its open.
 pub after-opened : (s : Seen) (party : Party) (file : ℕ) (args : OpenArgs) (verdict : Verdict) → rises 0 s.last s.opens ≡ true
     → after s (Asked (record { caller = Some party; file = file; deed = Open args }) verdict) (reply_with Nfs4Ok (OpenReply (open_value s (Some party) args)))
-        ≡ after_open s party args
+    ≡ after_open s party args
 unfolding words is_done after_words opens_after look open_value row_to_open row_to_take last_after after_taking after_open
 after-opened s party file args verdict rising =
     let owner : Owner = opener party args in
@@ -62,7 +62,7 @@ after-opened s party file args verdict rising =
       grants = s.grants;
       tree = tree-opened s args i;
       opens = put_open (same_row s.last s.opens owner its_file args.access args.deny rising (open_of owner its_file s.opens) refl i) s.opens;
-      last = cond (drew_new s.last s.opens owner its_file args.access args.deny rising (open_of owner its_file s.opens) refl i) (s.last + 1) s.last
+      last = cond (drew_new s.last s.opens owner its_file args.access args.deny rising (open_of owner its_file s.opens) refl i) (s.last + 1) s.last;
     }
 
 -- a CLOSE drops the open that it answers
@@ -82,7 +82,7 @@ pub applied_refused : (s : Seen) (call : Call) (verdict : Verdict) (status : OpS
     → Applied s (Asked call verdict) (reply_with status (refused_value call.deed)) s
 applied_refused s call verdict status stops = record {
   answer = stopped_answer s call verdict (Some (Refuse status)) (sym stops);
-  tables = sym (after-refused s call verdict status)
+  tables = sym (after-refused s call verdict status);
 }
 
 -- an OPEN that nothing stops
@@ -93,7 +93,7 @@ applied_open s party file args verdict opened rising goes value =
     let call : Call = record { caller = Some party; file = file; deed = Open args } in
     record {
       answer = ap (λ v. reply_with Nfs4Ok (OpenReply v)) (sym value) ∙ stopped_answer s call verdict None (sym goes);
-      tables = sym (after-opened s party file args verdict rising) ∙ ap (λ v. after s (Asked call verdict) (reply_with Nfs4Ok (OpenReply v))) value
+      tables = sym (after-opened s party file args verdict rising) ∙ ap (λ v. after s (Asked call verdict) (reply_with Nfs4Ok (OpenReply v))) value;
     }
 
 -- a CLOSE that nothing stops
@@ -104,7 +104,7 @@ applied_close s caller file args verdict id goes value =
     let call : Call = record { caller = caller; file = file; deed = Close args } in
     record {
       answer = ap (λ v. reply_with Nfs4Ok (CloseReply v)) (sym value) ∙ stopped_answer s call verdict None (sym goes);
-      tables = sym (after-closed s caller file args verdict id)
+      tables = sym (after-closed s caller file args verdict id);
     }
 
 -- a CLOSE that nothing stops names a live open

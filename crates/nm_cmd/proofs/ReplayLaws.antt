@@ -43,7 +43,7 @@ refused_is bytes line why text faulty no_script it = record {
   none = no_script;
   first = faulty;
   fault = it;
-  written = rw faulty it
+  written = rw faulty it;
 }
 
 -- a front that is shorter than was asked for is the whole
@@ -80,7 +80,7 @@ ran_input input text written front ran = record {
   script = ran.script;
   spelled = subst (λ bytes. IsScript bytes ran.script) (whole_input input text ran.script front ran.spelled) ran.spelled;
   run = ran.run;
-  written = ran.written ∙ ap written_for (ap script_at front ∙ front_reads input)
+  written = ran.written ∙ ap written_for (ap script_at front ∙ front_reads input);
 }
 
 pub refused_input : (input text written : List ℕ) → text ≡ take (2 ^ 24 + 1) input → IsRefused text written → IsRefused input written
@@ -90,7 +90,7 @@ refused_input input text written front refused = record {
   none = λ s is. refused.none s (subst (λ bytes. IsScript bytes s) (sym (whole_text input text s front is)) is);
   first = sym (ap script_at front ∙ front_reads input) ∙ refused.first;
   fault = refused.fault;
-  written = refused.written ∙ ap written_for (ap script_at front ∙ front_reads input)
+  written = refused.written ∙ ap written_for (ap script_at front ∙ front_reads input);
 }
 
 pub answer_input : (input text : List ℕ) (a : Answer) → text ≡ take (2 ^ 24 + 1) input → IsAnswer text a → IsAnswer input a

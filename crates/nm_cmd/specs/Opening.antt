@@ -27,12 +27,12 @@ with_file name tree = tree_after (made_at (file_at name tree.table) tree name) t
 unfoldable pub after_taking : Seen → Owner → ℕ → ℕ → ℕ → Seen
 after_taking s owner file access deny = record s {
   opens = put_open (row_to_take s.last s.opens owner file access deny) s.opens;
-  last = last_after s.last s.opens owner file
+  last = last_after s.last s.opens owner file;
 }
 
 unfoldable pub after_open : Seen → Party → OpenArgs → Seen
 after_open s party args = record (after_taking s (opener party args) (file_to_open s args) args.access args.deny) {
-  tree = with_file (claimed_name args.claim) s.tree
+  tree = with_file (claimed_name args.claim) s.tree;
 }
 
 unfoldable pub after_drop : Seen → ℕ → Seen

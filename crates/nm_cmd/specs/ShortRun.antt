@@ -127,8 +127,13 @@ open_call client row a how seqid = record {
   caller = Some (party_of client row);
   file = 1;
   deed = OpenDeed (record {
-    seqid = seqid; access = a.access; deny = a.deny; owner = owner_text row a.owner; how = how; claim = Null a.file
-  })
+    seqid = seqid;
+    access = a.access;
+    deny = a.deny;
+    owner = owner_text row a.owner;
+    how = how;
+    claim = Null a.file;
+  });
 }
 
 -- CLOSE of what the client holds
@@ -136,7 +141,7 @@ unfoldable pub close_call : ℕ → ClientRow → HeldOpen → ℕ → Call
 close_call client row held seqid = record {
   caller = Some (party_of client row);
   file = held.handle;
-  deed = CloseDeed (record { seqid = seqid; stateid = Named held.stateid })
+  deed = CloseDeed (record { seqid = seqid; stateid = Named held.stateid });
 }
 
 -- The call of an action. A CLOSE needs a stateid; without one nothing is sent.
@@ -151,8 +156,13 @@ call_of client row known (Close a) =
 -- an open as it is shown, with its file's name
 unfoldable pub held_row : List FileRow → OpenRow → HeldRow
 held_row files row = record {
-  counter = row.counter; seqid = row.seqid; file = row.file; name = name_at row.file files;
-  instance = row.owner.instance; owner = row.owner.text; row = OpenHeld row.access row.deny
+  counter = row.counter;
+  seqid = row.seqid;
+  file = row.file;
+  name = name_at row.file files;
+  instance = row.owner.instance;
+  owner = row.owner.text;
+  row = OpenHeld row.access row.deny;
 }
 
 -- the opens in the order of their counters, which is that of the table
@@ -193,7 +203,7 @@ ran_call r client row action (Some call) =
     let reply = answer 0 false r.past (Asked call Pass) in
     record {
       rows = outcome row action (Answered reply.status) ∷ [];
-      run = record { past = add 0 false r.past (Asked call Pass); known = learned client action reply r.known }
+      run = record { past = add 0 false r.past (Asked call Pass); known = learned client action reply r.known };
     }
 
 -- a line of a client; a number that no client has says nothing

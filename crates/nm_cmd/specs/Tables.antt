@@ -31,7 +31,7 @@ told_call t client row action (Some call) =
     let reply = answer_to t.tables (Asked call Pass) in
     record {
       rows = outcome row action (Answered reply.status) ∷ [];
-      next = record { tables = after t.tables (Asked call Pass) reply; known = learned client action reply t.known }
+      next = record { tables = after t.tables (Asked call Pass) reply; known = learned client action reply t.known };
     }
 
 unfoldable pub told_client : TablesNow → ℕ → Action → Option ClientRow → Step

@@ -4,8 +4,8 @@ ghost use Rattle.nm_rules.specs.Shares.{next_seqid};
 ghost use Rattle.nm_cmd.specs.ShortRun.{knows_nothing, seqid_of, other_seqids, moved_on, held_of, others_held, holds_opened, holds_closed, learned, learned_open, party_of, owner_text, open_call, close_call, call_of};
 
 use nm_rules::{
-    Action, Bytes, Call, CloseAction, CloseArgs, Deed, Instance, Items, Memory, OpStatus, OpenAction, OpenArgs,
-    OpenClaim, OpenHow, Principal, Reply, ReplyValue, StateId, StateRef,
+    Action, Bytes, Call, CloseAction, CloseArgs, Deed, Instance, Items, Memory, OpStatus,
+    OpenAction, OpenArgs, OpenClaim, OpenHow, Principal, Reply, ReplyValue, StateId, StateRef,
 };
 use nm_script::ClientRow;
 use std::alloc::Global;
@@ -77,37 +77,59 @@ fn seqid_after(n: u32) -> u32
 
 // Moves an owner on, where the status advances.
 #[tactic(auto, unfolding(crate::specs::ShortRun::moved_on))]
-fn move_on(rows: &mut Vec<OwnerSeqid>, client: u32, owner: &Bytes, status: OpStatus) -> Result<(), Memory>
+fn move_on(
+    rows: &mut Vec<OwnerSeqid>,
+    client: u32,
+    owner: &Bytes,
+    status: OpStatus,
+) -> Result<(), Memory>
     ensures { OnOk result (rows.new.items ≡ moved_on client owner.now status rows.old.items) }
 {
     if status.advances() {
         let next = seqid_after(find_seqid(rows, client, owner.items()));
         let owner = owner.copy()?;
         drop_seqid(rows, client, owner.items());
-        rows.push(OwnerSeqid { client, owner, next })?;
+        rows.push(OwnerSeqid {
+            client,
+            owner,
+            next,
+        })?;
     }
     Ok(())
 }
 
 // What an owner of a client holds on a file.
 #[tactic(auto, unfolding(crate::specs::ShortRun::held_of))]
-fn find_held<'a>(rows: &'a [HeldOpen], client: u32, owner: &[u8], file: &[u8]) -> Option<&'a HeldOpen>
+fn find_held<'a>(
+    rows: &'a [HeldOpen],
+    client: u32,
+    owner: &[u8],
+    file: &[u8],
+) -> Option<&'a HeldOpen>
     ensures { option_copied result ≡ held_of client owner.now file.now rows.now }
 {
-    rows.iter()
-        .find(|row| row.client == client && row.owner.items() == owner && row.file.items() == file)
+    rows.iter().find(|row| row.client == client
+        && row.owner.items() == owner
+        && row.file.items() == file)
 }
 
 // What all others hold.
 fn drop_held(rows: &mut Vec<HeldOpen>, client: u32, owner: &[u8], file: &[u8])
     ensures { rows.new.items ≡ others_held client owner.now file.now rows.old.items }
 {
-    rows.retain(|row| !(row.client == client && row.owner.items() == owner && row.file.items() == file));
+    rows.retain(|row| !(row.client == client
+        && row.owner.items() == owner
+        && row.file.items() == file));
 }
 
 // What the reply to an OPEN leaves in a client's hands.
 #[tactic(auto, unfolding(crate::specs::ShortRun::holds_opened))]
-fn hold_opened(rows: &mut Vec<HeldOpen>, client: u32, a: &OpenAction, value: ReplyValue) -> Result<(), Memory>
+fn hold_opened(
+    rows: &mut Vec<HeldOpen>,
+    client: u32,
+    a: &OpenAction,
+    value: ReplyValue,
+) -> Result<(), Memory>
     ensures { OnOk result (rows.new.items ≡ holds_opened client a.now value rows.old.items) }
 {
     if let ReplyValue::Open(Some(opened)) = value {
@@ -173,7 +195,14 @@ fn text_of_owner(alloc: Global, row: &ClientRow, owner: &Bytes) -> Result<Bytes,
 
 // The call of an OPEN.
 #[tactic(auto, unfolding(crate::specs::ShortRun::open_call))]
-fn make_open(alloc: Global, client: u32, row: &ClientRow, a: &OpenAction, how: OpenHow, seqid: u32) -> Result<Call, Memory>
+fn make_open(
+    alloc: Global,
+    client: u32,
+    row: &ClientRow,
+    a: &OpenAction,
+    how: OpenHow,
+    seqid: u32,
+) -> Result<Call, Memory>
     requires { length row.now.name ≤ 16 }
     ensures { IfOk result (λ call. call ≡ open_call client row.now a.now how seqid) }
 {
@@ -194,7 +223,13 @@ fn make_open(alloc: Global, client: u32, row: &ClientRow, a: &OpenAction, how: O
 
 // The call of a CLOSE.
 #[tactic(auto, unfolding(crate::specs::ShortRun::close_call))]
-fn make_close(alloc: Global, client: u32, row: &ClientRow, held: &HeldOpen, seqid: u32) -> Result<Call, Memory>
+fn make_close(
+    alloc: Global,
+    client: u32,
+    row: &ClientRow,
+    held: &HeldOpen,
+    seqid: u32,
+) -> Result<Call, Memory>
     requires { length row.now.name ≤ 16 }
     ensures { IfOk result (λ call. call ≡ close_call client row.now held.now seqid) }
 {
@@ -223,7 +258,12 @@ impl Clients {
 
     /// The call that a client's action sends. `None` exactly where it needs a stateid that the client hasn't.
     #[tactic(auto, unfolding(crate::specs::ShortRun::call_of))]
-    pub fn call_of(&self, client: u32, row: &ClientRow, action: &Action) -> Result<Option<Call>, Memory>
+    pub fn call_of(
+        &self,
+        client: u32,
+        row: &ClientRow,
+        action: &Action,
+    ) -> Result<Option<Call>, Memory>
         requires { length row.now.name ≤ 16 }
         ensures { IfOk result (λ call. call ≡ call_of client row.now self.now action.now) }
     {

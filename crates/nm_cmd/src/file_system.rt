@@ -14,11 +14,12 @@ ghost use Rattle.nm_rules.specs.Answer.{reply_with};
 ghost use Rattle.nm_cmd.specs.Opening.{Applied, after_open, after_drop, after_taking};
 ghost use Rattle.nm_shares.specs.Rows.{state_of, row_to_take};
 
-use nm_rules::{
-    Bytes, Call, CloseArgs, Deed, FileRow, FsNum, Instance, Items, Memory, OpStatus, OpenArgs, OpenClaim, OpenHow,
-    OpenRow, Opened, Owner, OwnerKind, Recalls, Refusal, Reply, ReplyValue, StateId, StateRef, Verdict,
-};
 use crate::tree::Tree;
+use nm_rules::{
+    Bytes, Call, CloseArgs, Deed, FileRow, FsNum, Instance, Items, Memory, OpStatus, OpenArgs,
+    OpenClaim, OpenHow, OpenRow, Opened, Owner, OwnerKind, Recalls, Refusal, Reply, ReplyValue,
+    StateId, StateRef, Verdict,
+};
 use nm_shares::{Shares, State};
 use std::alloc::Global;
 use std::marker::Model;
@@ -39,11 +40,11 @@ impl Model for FileSystem {
     ghost Value = { Seen };
 
     ghost view = { λ f. record {
-        fs = f.fs;
-        grants = f.grants;
-        tree = f.tree;
-        opens = f.shares.table;
-        last = f.shares.last
+      fs = f.fs;
+      grants = f.grants;
+      tree = f.tree;
+      opens = f.shares.table;
+      last = f.shares.last;
     } };
 }
 
@@ -129,7 +130,13 @@ impl FileSystem {
 
     // The first class that refuses an OPEN.
     #[tactic(auto, unfolding(nm_rules::specs::Opens::open_checks))]
-    fn open_stop(&self, party: Instance, owner: &Owner, args: &OpenArgs, verdict: Verdict) -> Option<OpStatus>
+    fn open_stop(
+        &self,
+        party: Instance,
+        owner: &Owner,
+        args: &OpenArgs,
+        verdict: Verdict,
+    ) -> Option<OpStatus>
         requires room { self.now.tree.last_file < 2 ^ 63 }
         requires owner { owner.now ≡ opener party args.now }
         ensures { option_map Refuse result ≡ first (open_checks self.now (Some party) args.now verdict) }
@@ -143,7 +150,10 @@ impl FileSystem {
         if self.finds_none(args) {
             return Some(OpStatus::NoEnt);
         }
-        if self.shares.is_opposed(owner, self.file_to_open(args), args.access, args.deny) {
+        if self
+            .shares
+            .is_opposed(owner, self.file_to_open(args), args.access, args.deny)
+        {
             return Some(OpStatus::ShareDenied);
         }
         None
@@ -162,7 +172,13 @@ impl FileSystem {
 
     // The first class that refuses a CLOSE.
     #[tactic(auto, unfolding(nm_rules::specs::Opens::close_checks))]
-    fn close_stop(&self, caller: Option<Instance>, file: u64, args: &CloseArgs, verdict: Verdict) -> Option<OpStatus>
+    fn close_stop(
+        &self,
+        caller: Option<Instance>,
+        file: u64,
+        args: &CloseArgs,
+        verdict: Verdict,
+    ) -> Option<OpStatus>
         ensures { option_map Refuse result ≡ first (close_checks self.now caller file args.now verdict) }
     {
         let Some(row) = self.open_named(args.stateid) else {
@@ -199,7 +215,12 @@ impl FileSystem {
 
     // Carries out an OPEN that nothing stops.
     #[tactic(auto, unfolding(nm_rules::specs::Opens::open_value, nm_rules::specs::Opens::row_to_open, nm_shares::specs::Rows::row_to_take, crate::specs::Opening::after_open, crate::specs::Opening::after_taking))]
-    fn open_file(&mut self, party: Instance, owner: &Owner, args: &OpenArgs) -> Result<Opened, Memory>
+    fn open_file(
+        &mut self,
+        party: Instance,
+        owner: &Owner,
+        args: &OpenArgs,
+    ) -> Result<Opened, Memory>
         requires room { self.old.last < 2 ^ 63 }
         requires more_files { self.old.tree.last_file < 2 ^ 63 }
         requires owner { owner.now ≡ opener party args.now }
@@ -251,11 +272,14 @@ impl FileSystem {
     }
 
     // Answers an OPEN.
-    #[tactic(
-        auto,
-        using(nm_rules::proofs::Legal::open_goes)
-    )]
-    fn open(&mut self, caller: Option<Instance>, file: u64, args: &OpenArgs, verdict: Verdict) -> Result<Reply, Memory>
+    #[tactic(auto, using(nm_rules::proofs::Legal::open_goes))]
+    fn open(
+        &mut self,
+        caller: Option<Instance>,
+        file: u64,
+        args: &OpenArgs,
+        verdict: Verdict,
+    ) -> Result<Reply, Memory>
         requires room { self.old.last < 2 ^ 63 }
         requires more_files { self.old.tree.last_file < 2 ^ 63 }
         ensures { IfOk result (λ r. Applied self.old (Asked (record { caller = caller; file = file; deed = OpenDeed args.now }) verdict) r self.new) }
@@ -276,11 +300,14 @@ impl FileSystem {
     }
 
     // Answers a CLOSE.
-    #[tactic(
-        auto,
-        using(crate::proofs::OpeningLemmas::close_names)
-    )]
-    fn close(&mut self, caller: Option<Instance>, file: u64, args: &CloseArgs, verdict: Verdict) -> Reply
+    #[tactic(auto, using(crate::proofs::OpeningLemmas::close_names))]
+    fn close(
+        &mut self,
+        caller: Option<Instance>,
+        file: u64,
+        args: &CloseArgs,
+        verdict: Verdict,
+    ) -> Reply
         ensures { Applied self.old (Asked (record { caller = caller; file = file; deed = CloseDeed args.now }) verdict) result self.new }
     {
         if let Some(status) = self.close_stop(caller, file, args, verdict) {

@@ -12,7 +12,8 @@ use crate::Status;
 use crate::run::Run;
 use nm_rules::{FsNum, Memory};
 use nm_script::{
-    ReadAllFault, Script, ScriptFault, Sink, Source, append_line_text, fault_text, read_all, read_script, write_all,
+    ReadAllFault, Script, ScriptFault, Sink, Source, append_line_text, fault_text, read_all,
+    read_script, write_all,
 };
 use std::alloc::Global;
 
@@ -96,7 +97,12 @@ const USAGE: &[u8] = b"usage: nfsmove replay | nfsmove live\n";
 /// program's name.
 ///
 /// The order is `Usage`, `ReadFault`, `Script`; want of memory comes before anything is written.
-pub fn replay<S: Source, K: Sink>(alloc: Global, words: &[String], source: &mut S, sink: &mut K) -> Status
+pub fn replay<S: Source, K: Sink>(
+    alloc: Global,
+    words: &[String],
+    source: &mut S,
+    sink: &mut K,
+) -> Status
     // The source was read to its end, its bytes spell a script, and what was written is the text of that script's run.
     ensures done { result ≡ Status.Done → IsReplayed (S.left source.old) (S.ended source.new) (K.held sink.old) (K.held sink.new) }
     // Its bytes spell no script, and what was written tells the first bad line and why it is bad.

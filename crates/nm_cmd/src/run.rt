@@ -7,11 +7,12 @@ ghost use Rattle.nm_cmd.specs.Tables.{no_tables, told_call, told_client, told_li
 use crate::clients::Clients;
 use crate::file_system::FileSystem;
 use nm_rules::{
-    Action, Bytes, Call, FileRow, FsNum, HeldKind, HeldRow, HeldTable, Items, Memory, OpStatus, OpenRow, Verdict,
+    Action, Bytes, Call, FileRow, FsNum, HeldKind, HeldRow, HeldTable, Items, Memory, OpStatus,
+    OpenRow, Verdict,
 };
 use nm_script::{
-    ClientRow, FsRow, Head, HeldReport, Line, OutcomeRow, PhaseNow, Report, ReportRow, ServerRow, Told,
-    append_line_text,
+    ClientRow, FsRow, Head, HeldReport, Line, OutcomeRow, PhaseNow, Report, ReportRow, ServerRow,
+    Told, append_line_text,
 };
 use std::alloc::Global;
 use std::marker::Model;
@@ -133,7 +134,13 @@ impl Run {
 
     // A client's call, with its reply.
     #[tactic(auto, unfolding(crate::specs::Tables::told_call))]
-    fn ask(&mut self, client: u32, row: &ClientRow, action: &Action, call: Option<Call>) -> Result<Report, Memory>
+    fn ask(
+        &mut self,
+        client: u32,
+        row: &ClientRow,
+        action: &Action,
+        call: Option<Call>,
+    ) -> Result<Report, Memory>
         requires { HasRoom self.old }
         ensures { IfOk result (λ rows. told_call self.old client row.now action.now call ≡ record { rows = rows; next = self.new }) }
     {

@@ -115,7 +115,7 @@ pub open_goes : (s : Seen) (party : Party) (args : OpenArgs) (verdict : Verdict)
 unfolding open_checks open_stop
 open_goes s party args verdict h =
     let tests = open_is_free verdict (not (is_share args.access args.deny)) (finds_none s args)
-            (is_opposed (opener party args) (file_to_open s args) args.access args.deny s.opens) h in
+    (is_opposed (opener party args) (file_to_open s args) args.access args.deny s.opens) h in
     record { share = not-false (is_share args.access args.deny) tests.0; named = tests.1; free = tests.2 }
 
 -- what stops a CLOSE of an open, from its tests

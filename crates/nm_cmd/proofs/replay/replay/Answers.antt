@@ -12,5 +12,5 @@ unfolding usage_text_of
 returns-in-Err-clause-write_fault g c = λ e. record {
   risen = c.in-Err.ensures.failed;
   usage = λ k. c.in-Err.ensures.part;
-  part = λ k. absurd (false≢true (c.if-not-is_replay.ensures ∙ k))
+  part = λ k. absurd (false≢true (c.if-not-is_replay.ensures ∙ k));
 }

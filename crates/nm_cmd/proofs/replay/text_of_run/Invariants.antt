@@ -7,5 +7,5 @@ abbrev pub invariant-loop-line : goal.invariant-loop-line
 invariant-loop-line l = record {
   told : l.text.items ++ text_from l.script.head l.run (drop l.line-index l.script.lines) ≡ text_from l.script.head no_tables l.script.lines;
   counters : l.run.tables.last ≤ l.line-index;
-  files : l.run.tables.tree.last_file ≤ 15 + l.line-index
+  files : l.run.tables.tree.last_file ≤ 15 + l.line-index;
 }

@@ -11,4 +11,4 @@ returns-in-Some c =
 pub returns : goal.returns
 returns c =
     rw (c.reply-2.ensures, c.close_file-stateid.ensures.after)
-        (applied_close c.args.self.now c.args.caller c.args.file c.args.args.now c.args.verdict c.close_file-stateid.result c.in_default.ensures c.close_file-stateid.ensures.value)
+    (applied_close c.args.self.now c.args.caller c.args.file c.args.args.now c.args.verdict c.close_file-stateid.result c.in_default.ensures c.close_file-stateid.ensures.value)

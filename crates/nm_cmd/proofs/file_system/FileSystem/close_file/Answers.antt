@@ -9,8 +9,8 @@ use Rattle.nm_cmd.proofs.file_system.FileSystem.close_file.Goals as goal
 pub close-state-requires : goal.close-state-requires
 close-state-requires c =
     let live : open_at c.in-Some.row.now.counter c.self.inside.shares.table ≡ Some c.in-Some.row.now =
-            ap (λ (s : Seen). open_at c.in-Some.row.now.counter s.opens) c.self.view_is
-            ∙ named_is_live c.args.self.now c.args.args.now.stateid c.in-Some.row.now (sym c.in-Some.ensures) in
+    ap (λ (s : Seen). open_at c.in-Some.row.now.counter s.opens) c.self.view_is
+    ∙ named_is_live c.args.self.now c.args.args.now.stateid c.in-Some.row.now (sym c.in-Some.ensures) in
     record { live = rw live (search rules) }
 
 pub returns-clause-value : goal.returns-clause-value
@@ -18,8 +18,8 @@ unfolding close_value
 returns-clause-value c =
     let named : open_named c.args.self.now c.args.args.now.stateid ≡ Some c.in-Some.row.now = sym c.in-Some.ensures in
     let live : open_at c.in-Some.row.now.counter c.self.inside.shares.table ≡ Some c.in-Some.row.now =
-            ap (λ (s : Seen). open_at c.in-Some.row.now.counter s.opens) c.self.view_is
-            ∙ named_is_live c.args.self.now c.args.args.now.stateid c.in-Some.row.now named in
+    ap (λ (s : Seen). open_at c.in-Some.row.now.counter s.opens) c.self.view_is
+    ∙ named_is_live c.args.self.now c.args.args.now.stateid c.in-Some.row.now named in
     let told = rw live at c.close-state.ensures.state in
     rw (named, told, c.number.ensures.value, ← ap (λ (s : Seen). s.fs) c.self.view_is) refl
 
@@ -27,7 +27,7 @@ pub returns-clause-after : goal.returns-clause-after
 unfolding after_drop
 returns-clause-after c =
     let live : open_at c.in-Some.row.now.counter c.self.inside.shares.table ≡ Some c.in-Some.row.now =
-            ap (λ (s : Seen). open_at c.in-Some.row.now.counter s.opens) c.self.view_is
-            ∙ named_is_live c.args.self.now c.args.args.now.stateid c.in-Some.row.now (sym c.in-Some.ensures) in
+    ap (λ (s : Seen). open_at c.in-Some.row.now.counter s.opens) c.self.view_is
+    ∙ named_is_live c.args.self.now c.args.args.now.stateid c.in-Some.row.now (sym c.in-Some.ensures) in
     let told = rw live at c.close-state.ensures.state in
     rw (← c.self.view_is, c.close-state.ensures.closed, told) refl

@@ -16,10 +16,10 @@ pub returns-in-Some-open_stop : goal.returns-in-Some-open_stop
 returns-in-Some-open_stop c =
     let call : Call = record { caller = Some c.in-Some.party; file = c.args.file; deed = Open c.args.args.now } in
     rw (c.reply-in-Some-open_stop.ensures, c.in-Some.is)
-        (applied_refused c.args.self.now call c.args.verdict c.in-Some-open_stop.status c.in-Some-open_stop.ensures)
+    (applied_refused c.args.self.now call c.args.verdict c.in-Some-open_stop.status c.in-Some-open_stop.ensures)
 
 pub returns : goal.returns
 returns c =
     rw (c.reply-2.ensures, c.in_ok-opened.ensures.after, c.in-Some.is)
-        (applied_open c.args.self.now c.in-Some.party c.args.file c.args.args.now c.args.verdict c.in_ok-opened.opened
-            c.in_ok-opened.ensures.rising c.in_default-open_stop.ensures c.in_ok-opened.ensures.value)
+    (applied_open c.args.self.now c.in-Some.party c.args.file c.args.args.now c.args.verdict c.in_ok-opened.opened
+    c.in_ok-opened.ensures.rising c.in_default-open_stop.ensures c.in_ok-opened.ensures.value)
