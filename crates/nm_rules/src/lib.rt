@@ -11,6 +11,8 @@ mod numbers;
 mod rows;
 mod status;
 mod table;
+#[cfg(test)]
+mod tests;
 
 pub use action::{Action, CloseAction, OpenAction, Verb};
 pub use calls::{

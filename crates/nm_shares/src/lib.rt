@@ -4,6 +4,8 @@
 mod rows;
 mod shares;
 mod state;
+#[cfg(test)]
+mod tests;
 
 pub use shares::Shares;
 pub use state::State;
