@@ -8,6 +8,8 @@ mod replay;
 mod run;
 mod standard;
 mod status;
+#[cfg(test)]
+mod tests;
 mod tree;
 
 use nm_rules::Memory;
