@@ -17,10 +17,11 @@ use Rattle.nm_script.specs.declared.script.Script.{Script}
 use Rattle.nm_script.specs.declared.script.Why.{Why}
 use Rattle.nm_script.specs.declared.script.Why.TheVariants as why
 use Rattle.nm_script.specs.declared.draft.Draft.{Draft}
-use Rattle.nm_script.specs.declared.draft.Kind.{Kind}
-use Rattle.nm_script.specs.declared.draft.Kind.TheVariants as kind
+use Rattle.nm_script.specs.declared.order.Kind.{Kind}
+use Rattle.nm_script.specs.declared.order.Kind.TheVariants as kind
+use Rattle.nm_script.specs.Words.{has_empty_word}
 use Rattle.nm_script.specs.Grammar.{name_at, server_names, file_system_names, client_names, all_names, all_differ, version_words, lease_words, server_words, file_system_words, client_words, run_words, script_words, IsName, IsHead, IsRun, IsWellFormed}
-use Rattle.nm_script.specs.Reading.{◌>>=◌, kind_of, first_kind, may_follow, has_empty_word, is_new_name, server_number, nothing_yet, version_at, lease_at, with_server, server_at, with_file_system, file_system_at, with_client, client_at, run_line, run_at, kind_at, words_at, is_client_kind, is_past_clients, finished}
+use Rattle.nm_script.specs.Reading.{◌>>=◌, kind_of, first_kind, may_follow, is_new_name, server_number, nothing_yet, version_at, lease_at, with_server, server_at, with_file_system, file_system_at, with_client, client_at, run_line, run_at, kind_at, words_at, is_client_kind, is_past_clients, finished}
 use Rattle.nm_script.proofs.WordLaws.{or_false, and_true, not_true, IsWord, number_again, decimal_is_word, name_is_word}
 use Rattle.nm_script.proofs.RunLaws.{bind_ok, ok_is, place_again, HasNames, run_again, run_are_words, keyword, word_in}
 use Rattle.nm_script.proofs.DraftLaws.{both_true, push_there, differ_front, differ_new, new_again, is_among, versioned, leased, served, placed, joined, ran}

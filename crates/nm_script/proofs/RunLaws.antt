@@ -112,24 +112,24 @@ client_is_word head k names lt = word_in (client_names head) k names.client_word
 
 -- ---- actions
 
-open_found : (head : Head) (f file acc den owner : List ℕ) (a : OpenAction) → open_action head f file acc den owner ≡ Ok a → (f ∷ file ∷ acc ∷ den ∷ owner ∷ [] ≡ open_words head a) × IsOpen head a
+open_found : (head : Head) (f file access_text deny_text owner : List ℕ) (a : OpenAction) → open_action head f file access_text deny_text owner ≡ Ok a → (f ∷ file ∷ access_text ∷ deny_text ∷ owner ∷ [] ≡ open_words head a) × IsOpen head a
 unfolding open_action
-open_found head f file acc den owner a e =
+open_found head f file access_text deny_text owner a e =
     let made : ℕ → ℕ → ℕ → OpenAction = λ access deny fs. record { fs = fs; file = file; access = access; deny = deny; owner = owner } in
     let last : ℕ → ℕ → ℕ → Result OpenAction Why = λ access deny fs. cond (is_file_name file && is_name owner) (Ok (made access deny fs)) (Err why.Name) in
-    let x = bind_ok (access_at acc) (λ access. deny_at den >>= λ deny. file_system_number head f >>= λ fs. last access deny fs) a e in
-    let y = bind_ok (deny_at den) (λ deny. file_system_number head f >>= λ fs. last x.0 deny fs) a x.2 in
+    let x = bind_ok (access_at access_text) (λ access. deny_at deny_text >>= λ deny. file_system_number head f >>= λ fs. last access deny fs) a e in
+    let y = bind_ok (deny_at deny_text) (λ deny. file_system_number head f >>= λ fs. last x.0 deny fs) a x.2 in
     let z = bind_ok (file_system_number head f) (λ fs. last x.0 y.0 fs) a y.2 in
     let g = guard_ok (is_file_name file && is_name owner) why.Name (made x.0 y.0 z.0) a z.2 in
     let n = and_true (is_file_name file) (is_name owner) g.0 in
-    let access = access_found acc x.0 x.1 in
-    let deny = deny_found den y.0 y.1 in
+    let access = access_found access_text x.0 x.1 in
+    let deny = deny_found deny_text y.0 y.1 in
     let at = file_system_found head f z.0 z.1 in
-    let same : f ∷ file ∷ acc ∷ den ∷ owner ∷ [] ≡ open_words head (made x.0 y.0 z.0) =
-    ap (λ (w : List ℕ). w ∷ file ∷ acc ∷ den ∷ owner ∷ []) at.1
-    ∙ ap (λ (w : List ℕ). name_at (file_system_names head) z.0 ∷ file ∷ w ∷ den ∷ owner ∷ []) access.0
+    let same : f ∷ file ∷ access_text ∷ deny_text ∷ owner ∷ [] ≡ open_words head (made x.0 y.0 z.0) =
+    ap (λ (w : List ℕ). w ∷ file ∷ access_text ∷ deny_text ∷ owner ∷ []) at.1
+    ∙ ap (λ (w : List ℕ). name_at (file_system_names head) z.0 ∷ file ∷ w ∷ deny_text ∷ owner ∷ []) access.0
     ∙ ap (λ (w : List ℕ). name_at (file_system_names head) z.0 ∷ file ∷ access_word x.0 ∷ w ∷ owner ∷ []) deny.0 in
-    subst (λ (o : OpenAction). (f ∷ file ∷ acc ∷ den ∷ owner ∷ [] ≡ open_words head o) × IsOpen head o) g.1
+    subst (λ (o : OpenAction). (f ∷ file ∷ access_text ∷ deny_text ∷ owner ∷ [] ≡ open_words head o) × IsOpen head o) g.1
     (same, record { fs = at.0; file = file_name_found file n.0; access_some = access.1; access_limit = access.2; deny_limit = deny.1; owner = name_found owner n.1 })
 
 open_again : (head : Head) (a : OpenAction) → HasNames head → IsOpen head a → open_action head (name_at (file_system_names head) a.fs) a.file (access_word a.access) (deny_word a.deny) a.owner ≡ Ok a
@@ -166,27 +166,27 @@ action_found head verb (f ∷ file ∷ owner ∷ []) a e =
           (ap (λ (w : List ℕ). w ∷ f ∷ file ∷ owner ∷ []) verb_is ∙ ap (λ (ws : List (List ℕ)). codes "close" ∷ ws) p.0, p.1)
       | inr h ↦ absurd cc
     ]
-action_found head verb (f ∷ file ∷ acc ∷ den ∷ []) a e = absurd cc
-action_found head verb (f ∷ file ∷ acc ∷ den ∷ owner ∷ []) a e =
-    let words : List (List ℕ) = f ∷ file ∷ acc ∷ den ∷ owner ∷ [] in
+action_found head verb (f ∷ file ∷ access_text ∷ deny_text ∷ []) a e = absurd cc
+action_found head verb (f ∷ file ∷ access_text ∷ deny_text ∷ owner ∷ []) a e =
+    let words : List (List ℕ) = f ∷ file ∷ access_text ∷ deny_text ∷ owner ∷ [] in
     let P : Action → Type 0 = λ o. (verb ∷ words ≡ action_words head o) × IsAction head o in
-    let opens = open_action head f file acc den owner in
+    let opens = open_action head f file access_text deny_text owner in
     elim (chosen (bytes_eq verb (codes "open")) (opens >>= λ o. Ok (Open o)) _ (Ok a) e) [
       | inl h ↦
           let x = bind_ok opens (λ o. done (Open o)) a h.1 in
-          let p = open_found head f file acc den owner x.0 x.1 in
+          let p = open_found head f file access_text deny_text owner x.0 x.1 in
           let verb_is : verb ≡ codes "open" = same_word verb (codes "open") h.0 in
           subst P (ok_is (Open x.0) a x.2) (ap (λ (w : List ℕ). w ∷ words) verb_is ∙ ap (λ (ws : List (List ℕ)). codes "open" ∷ ws) p.0, p.1)
       | inr g ↦ elim (chosen (bytes_eq verb (codes "create")) (opens >>= λ o. Ok (Create o)) (Err why.Word) (Ok a) g.1) [
         | inl h ↦
             let x = bind_ok opens (λ o. done (Create o)) a h.1 in
-            let p = open_found head f file acc den owner x.0 x.1 in
+            let p = open_found head f file access_text deny_text owner x.0 x.1 in
             let verb_is : verb ≡ codes "create" = same_word verb (codes "create") h.0 in
             subst P (ok_is (Create x.0) a x.2) (ap (λ (w : List ℕ). w ∷ words) verb_is ∙ ap (λ (ws : List (List ℕ)). codes "create" ∷ ws) p.0, p.1)
         | inr h ↦ absurd cc
       ]
     ]
-action_found head verb (f ∷ file ∷ acc ∷ den ∷ owner ∷ more ∷ words) a e = absurd cc
+action_found head verb (f ∷ file ∷ access_text ∷ deny_text ∷ owner ∷ more ∷ words) a e = absurd cc
 
 -- ---- lines
 

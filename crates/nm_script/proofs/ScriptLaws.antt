@@ -19,8 +19,8 @@ use Rattle.nm_script.specs.declared.script.ScriptFault.TheVariants as faults
 use Rattle.nm_script.specs.declared.script.Why.{Why}
 use Rattle.nm_script.specs.declared.script.Why.TheVariants as why
 use Rattle.nm_script.specs.declared.draft.Draft.{Draft}
-use Rattle.nm_script.specs.declared.draft.Kind.{Kind}
-use Rattle.nm_script.specs.declared.draft.Kind.TheVariants as kind
+use Rattle.nm_script.specs.declared.order.Kind.{Kind}
+use Rattle.nm_script.specs.declared.order.Kind.TheVariants as kind
 use Rattle.nm_script.specs.Words.{words_of, says_something, is_printable}
 use Rattle.nm_script.specs.Grammar.{IsLines, line_of, script_words, run_words, version_words, lease_words, server_words, file_system_words, client_words, name_at, server_names, file_system_names, client_names, all_names, IsName, IsHead, IsRun, IsWellFormed, IsSourceLine, IsScript}
 use Rattle.nm_script.specs.Reading.{◌>>=◌, Tells, IsFault, kind_of, first_kind, is_client_kind, words_at, is_past_clients, line_at, nothing_yet, finished, lines_of, ended, in_line, counted_at, lines_at, or_no_head, whole_at, cut_at, script_at}
@@ -398,3 +398,6 @@ few bytes (Err fault) h = tt
 
 pub only : (bytes : List ℕ) (result : Result Script ScriptFault) → Tells result (script_at bytes) → (s : Script) → IsScript bytes s → Tells result (Ok s)
 only bytes result h s is = subst (Tells result) (script_again bytes s is) h
+
+pub one : (bytes : List ℕ) (s t : Script) → IsScript bytes s → IsScript bytes t → s ≡ t
+one bytes s t is are = same_read s t (sym (script_again bytes s is) ∙ script_again bytes t are)

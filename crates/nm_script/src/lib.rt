@@ -2,6 +2,9 @@
 #![tactic(auto)]
 
 mod draft;
+mod fault;
+mod names;
+mod order;
 mod read;
 mod report;
 mod run;
