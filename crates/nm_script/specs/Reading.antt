@@ -1,6 +1,6 @@
 -- Reading a script from its first line to its last: the first fault, or what the lines say.
-use Rattle.std.specs.Prelude.{◌≡◌, ℕ, zero, suc, ◌+◌, ◌-◌, ◌*◌, ◌^◌, Bool, true, false, not, ◌&&◌, ◌||◌, ◌==◌, nat_lt, nat_le, List, [], ◌∷◌, ◌++◌, length, take, Option, Some, None, Result, Ok, Err, if◌then◌else◌, codes, position}
-use Rattle.std.specs.List.{list_all, list_any, slice_split, onto_first, suffix_len}
+use Rattle.std.specs.Prelude.{◌≡◌, ℕ, ◌+◌, ◌^◌, Bool, true, false, not, ◌&&◌, ◌||◌, ◌==◌, nat_lt, nat_le, List, [], ◌∷◌, ◌++◌, length, take, Option, Some, None, Result, Ok, Err, if◌then◌else◌, codes, position}
+use Rattle.std.specs.List.{list_any, onto_first}
 use Rattle.std.specs.Str.{bytes_eq}
 use Rattle.nm_rules.specs.declared.action.Action.{Action}
 use Rattle.nm_rules.specs.declared.action.Action.TheVariants.{Open, Create, Close}
