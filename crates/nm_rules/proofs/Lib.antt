@@ -1,1 +1,7 @@
+pub mod Apart
+pub mod Legal
+pub mod Looks
+pub mod OpenRows
+pub mod OwnerLemmas
 pub mod PartyLemmas
+pub mod ShareLaws

@@ -1,3 +1,14 @@
 pub mod Actions
+pub mod Answer
+pub mod Checks
+pub mod Files
+pub mod Opens
+pub mod Owners
 pub mod Parties
+pub mod Past
+pub mod Readings
+pub mod Seen
+pub mod Seqids
+pub mod Shares
+pub mod Sound
 pub mod Statuses

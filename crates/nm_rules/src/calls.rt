@@ -1,5 +1,6 @@
 //! Calls that reach a file system, their replies, and the entries that they leave.
-ghost use Rattle.std.specs.Prelude.{◌≡◌, ◌↔◌, IfOk, IsTrue, ◌^◌, ◌<◌};
+ghost use Rattle.std.specs.Prelude.{◌≡◌, ◌↔◌, IfOk, IsTrue};
+ghost use Rattle.nm_rules.specs.Owners.{same_owner};
 
 use crate::{Bytes, Instance, Items, Memory, OpStatus};
 
@@ -23,6 +24,14 @@ pub struct Owner {
 }
 
 impl Owner {
+    /// Whether both are the same owner: instance, kind and text are equal.
+    pub fn is_same(&self, other: &Owner) -> bool
+        ensures value { result ≡ same_owner self.now other.now }
+        ensures same { IsTrue result ↔ (self.now ≡ other.now) }
+    {
+        self == other
+    }
+
     /// The same owner once more.
     pub fn copy(&self) -> Result<Owner, Memory>
         ensures { IfOk result (λ owner. owner ≡ self.now) }

@@ -1,6 +1,6 @@
 //! Client instances: a client's string, the verifier of one of its starts, and its principal.
 ghost use Rattle.std.specs.Prelude.{◌≡◌, ◌<◌, ◌≤◌, ◌↔◌, ℕ, length, IsTrue, IfOk, IfErr, IsOk};
-ghost use Rattle.nm_rules.specs.Parties.{padded};
+ghost use Rattle.nm_rules.specs.Parties.{padded, same_party};
 ghost use Rattle.nm_rules.specs.declared.instance.NameFault.TheVariants.{TooLong};
 
 use std::marker::Model;
@@ -85,6 +85,13 @@ impl Instance {
         ensures { result ≡ self.now }
     {
         *self
+    }
+
+    /// Whether both are the same start of the same client.
+    pub fn is_same(&self, other: &Instance) -> bool
+        ensures value { result ≡ same_party self.now other.now }
+    {
+        self == other
     }
 
     /// Its string, of at most 1,024 bytes.

@@ -5,11 +5,14 @@ mod action;
 mod calls;
 mod instance;
 mod items;
+mod laws;
 mod memory;
 mod numbers;
 mod rows;
 mod status;
 mod table;
+#[cfg(test)]
+mod tests;
 
 pub use action::{Action, CloseAction, OpenAction, Verb};
 pub use calls::{
@@ -18,6 +21,9 @@ pub use calls::{
 };
 pub use instance::{Instance, NameFault, Principal};
 pub use items::{Bytes, Items};
+pub use laws::{
+    legal_tables_are_sound, shares_never_conflict, tables_keep_shares, tables_show_what_stands,
+};
 pub use memory::{Memory, Refusal};
 pub use numbers::{Epoch, Era, FsNum, MoveNum, ServerNum};
 pub use rows::{FileRow, OpenRow};

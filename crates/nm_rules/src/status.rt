@@ -1,5 +1,6 @@
 //! The statuses of NFSv4.0 that this profile answers (RFC 7530, 13.1), each with its number.
 ghost use Rattle.std.specs.Prelude.{◌≡◌, IfSome, IsSome};
+ghost use Rattle.nm_rules.specs.Seqids.{advances};
 ghost use Rattle.nm_rules.specs.Statuses.{number_of, status_of};
 
 /// The status of an operation (RFC 7530, 13.1; RFC 7931 for `LeaseMoved`). A name is that of the standard
@@ -155,5 +156,24 @@ impl OpStatus {
             10046 => Some(OpStatus::FileOpen),
             _ => None,
         }
+    }
+
+    /// Whether an operation that takes an owner's seqid moves the owner on to the next one, with this status
+    /// (RFC 7530, 9.1.7).
+    #[tactic(auto, unfolding(crate::specs::Seqids::advances))]
+    pub fn advances(self) -> bool
+        ensures { result ≡ advances self }
+    {
+        !matches!(
+            self,
+            OpStatus::StaleClientId
+                | OpStatus::StaleStateId
+                | OpStatus::BadStateId
+                | OpStatus::BadSeqid
+                | OpStatus::BadXdr
+                | OpStatus::Resource
+                | OpStatus::NoFileHandle
+                | OpStatus::Moved
+        )
     }
 }

@@ -1,6 +1,8 @@
 pub mod AgainLaws
 pub mod DraftLaws
+pub mod OutsideLemmas
 pub mod RunLaws
-pub mod SourceLaws
 pub mod ScriptLaws
+pub mod SourceLaws
+pub mod TextLemmas
 pub mod WordLaws

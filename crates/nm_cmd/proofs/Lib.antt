@@ -1,0 +1,4 @@
+pub mod OpeningLemmas
+pub mod ReplayLaws
+pub mod RoomLaws
+pub mod RunLaws

@@ -1,0 +1,4 @@
+pub mod Opening
+pub mod Replay
+pub mod ShortRun
+pub mod Tables

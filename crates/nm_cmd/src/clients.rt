@@ -1,0 +1,312 @@
+//! What the clients of a script know, and what they send.
+ghost use Rattle.std.specs.Prelude.{◌≡◌, ◌==◌, ◌≤◌, ◌++◌, not, length, filter, codes, IfOk, OnOk, option_copied};
+ghost use Rattle.nm_rules.specs.Shares.{next_seqid};
+ghost use Rattle.nm_cmd.specs.ShortRun.{knows_nothing, seqid_of, other_seqids, moved_on, held_of, others_held, holds_opened, holds_closed, learned, learned_open, party_of, owner_text, open_call, close_call, call_of};
+
+use nm_rules::{
+    Action, Bytes, Call, CloseAction, CloseArgs, Deed, Instance, Items, Memory, OpStatus,
+    OpenAction, OpenArgs, OpenClaim, OpenHow, Principal, Reply, ReplyValue, StateId, StateRef,
+};
+use nm_script::ClientRow;
+use std::alloc::Global;
+use std::marker::Model;
+
+/// The next seqid of an owner of a client (RFC 7530, 9.1.7). An owner that isn't listed begins with 1.
+#[derive(Debug, PartialEq, Eq, Drop)]
+pub struct OwnerSeqid {
+    pub client: u32,
+    /// The owner's name.
+    pub owner: Bytes,
+    pub next: u32,
+}
+
+/// An open that a client holds.
+#[derive(Debug, PartialEq, Eq, Drop)]
+pub struct HeldOpen {
+    pub client: u32,
+    /// The owner's name.
+    pub owner: Bytes,
+    /// The file's name.
+    pub file: Bytes,
+    /// The file's number, as its handle has it.
+    pub handle: u64,
+    /// The stateid that was given last.
+    pub stateid: StateId,
+}
+
+/// What all clients know.
+#[derive(Debug, Drop)]
+pub struct Clients {
+    alloc: Global,
+    seqids: Vec<OwnerSeqid>,
+    held: Vec<HeldOpen>,
+}
+
+impl Model for Clients {
+    ghost use Rattle.nm_cmd.specs.ShortRun.{Known};
+
+    ghost Value = { Known };
+
+    ghost view = { λ c. record { seqids = c.seqids.items; held = c.held.items } };
+}
+
+// The next seqid of an owner.
+#[tactic(auto, unfolding(crate::specs::ShortRun::seqid_of))]
+fn find_seqid(rows: &[OwnerSeqid], client: u32, owner: &[u8]) -> u32
+    ensures { result ≡ seqid_of client owner.now rows.now }
+{
+    rows.iter()
+        .find(|row| row.client == client && row.owner.items() == owner)
+        .map(|row| row.next)
+        .unwrap_or(1)
+}
+
+// The seqids of all other owners.
+fn drop_seqid(rows: &mut Vec<OwnerSeqid>, client: u32, owner: &[u8])
+    ensures { rows.new.items ≡ other_seqids client owner.now rows.old.items }
+{
+    rows.retain(|row| !(row.client == client && row.owner.items() == owner));
+}
+
+// The seqid after one.
+fn seqid_after(n: u32) -> u32
+    ensures { result ≡ next_seqid n }
+{
+    if n == u32::MAX { 1 } else { n + 1 }
+}
+
+// Moves an owner on, where the status advances.
+#[tactic(auto, unfolding(crate::specs::ShortRun::moved_on))]
+fn move_on(
+    rows: &mut Vec<OwnerSeqid>,
+    client: u32,
+    owner: &Bytes,
+    status: OpStatus,
+) -> Result<(), Memory>
+    ensures { OnOk result (rows.new.items ≡ moved_on client owner.now status rows.old.items) }
+{
+    if status.advances() {
+        let next = seqid_after(find_seqid(rows, client, owner.items()));
+        let owner = owner.copy()?;
+        drop_seqid(rows, client, owner.items());
+        rows.push(OwnerSeqid {
+            client,
+            owner,
+            next,
+        })?;
+    }
+    Ok(())
+}
+
+// What an owner of a client holds on a file.
+#[tactic(auto, unfolding(crate::specs::ShortRun::held_of))]
+fn find_held<'a>(
+    rows: &'a [HeldOpen],
+    client: u32,
+    owner: &[u8],
+    file: &[u8],
+) -> Option<&'a HeldOpen>
+    ensures { option_copied result ≡ held_of client owner.now file.now rows.now }
+{
+    rows.iter().find(|row| row.client == client
+        && row.owner.items() == owner
+        && row.file.items() == file)
+}
+
+// What all others hold.
+fn drop_held(rows: &mut Vec<HeldOpen>, client: u32, owner: &[u8], file: &[u8])
+    ensures { rows.new.items ≡ others_held client owner.now file.now rows.old.items }
+{
+    rows.retain(|row| !(row.client == client
+        && row.owner.items() == owner
+        && row.file.items() == file));
+}
+
+// What the reply to an OPEN leaves in a client's hands.
+#[tactic(auto, unfolding(crate::specs::ShortRun::holds_opened))]
+fn hold_opened(
+    rows: &mut Vec<HeldOpen>,
+    client: u32,
+    a: &OpenAction,
+    value: ReplyValue,
+) -> Result<(), Memory>
+    ensures { OnOk result (rows.new.items ≡ holds_opened client a.now value rows.old.items) }
+{
+    if let ReplyValue::Open(Some(opened)) = value {
+        let owner = a.owner.copy()?;
+        let file = a.file.copy()?;
+        drop_held(rows, client, a.owner.items(), a.file.items());
+        rows.push(HeldOpen {
+            client,
+            owner,
+            file,
+            handle: opened.file,
+            stateid: opened.stateid,
+        })?;
+    }
+    Ok(())
+}
+
+// What the reply to a CLOSE leaves in a client's hands.
+#[tactic(auto, unfolding(crate::specs::ShortRun::holds_closed))]
+fn hold_closed(rows: &mut Vec<HeldOpen>, client: u32, a: &CloseAction, value: ReplyValue)
+    ensures { rows.new.items ≡ holds_closed client a.now value rows.old.items }
+{
+    if let ReplyValue::Close(Some(_)) = value {
+        drop_held(rows, client, a.owner.items(), a.file.items());
+    }
+}
+
+// Bytes behind others.
+fn joined(alloc: Global, front: &[u8], back: &[u8]) -> Result<Vec<u8>, Memory>
+    ensures { IfOk result (λ bytes. bytes.items ≡ front.now ++ back.now) }
+{
+    let mut bytes = Vec::from_slice(alloc, front)?;
+    bytes.extend_from_slice(back)?;
+    Ok(bytes)
+}
+
+// A client's instance.
+#[tactic(auto, unfolding(crate::specs::ShortRun::party_of))]
+fn instance_of(alloc: Global, client: u32, row: &ClientRow) -> Result<Instance, Memory>
+    requires { length row.now.name ≤ 16 }
+    ensures { IfOk result (λ instance. instance ≡ party_of client row.now) }
+{
+    let id = joined(alloc, b"nfsmove/", row.name.items())?;
+    let principal = Principal {
+        flavor: 1,
+        uid: client,
+    };
+    match Instance::make(&id, row.verifier, principal) {
+        Ok(instance) => Ok(instance),
+        Err(_) => unreachable!(),
+    }
+}
+
+// An owner's text.
+#[tactic(auto, unfolding(crate::specs::ShortRun::owner_text))]
+fn text_of_owner(alloc: Global, row: &ClientRow, owner: &Bytes) -> Result<Bytes, Memory>
+    ensures { IfOk result (λ text. text ≡ owner_text row.now owner.now) }
+{
+    let mut text = joined(alloc, row.name.items(), b"/")?;
+    text.extend_from_slice(owner.items())?;
+    Ok(Items::from_slice(alloc, &text)?)
+}
+
+// The call of an OPEN.
+#[tactic(auto, unfolding(crate::specs::ShortRun::open_call))]
+fn make_open(
+    alloc: Global,
+    client: u32,
+    row: &ClientRow,
+    a: &OpenAction,
+    how: OpenHow,
+    seqid: u32,
+) -> Result<Call, Memory>
+    requires { length row.now.name ≤ 16 }
+    ensures { IfOk result (λ call. call ≡ open_call client row.now a.now how seqid) }
+{
+    let args = OpenArgs {
+        seqid,
+        access: a.access,
+        deny: a.deny,
+        owner: text_of_owner(alloc, row, &a.owner)?,
+        how,
+        claim: OpenClaim::Null(a.file.copy()?),
+    };
+    Ok(Call {
+        caller: Some(instance_of(alloc, client, row)?),
+        file: 1,
+        deed: Deed::Open(args),
+    })
+}
+
+// The call of a CLOSE.
+#[tactic(auto, unfolding(crate::specs::ShortRun::close_call))]
+fn make_close(
+    alloc: Global,
+    client: u32,
+    row: &ClientRow,
+    held: &HeldOpen,
+    seqid: u32,
+) -> Result<Call, Memory>
+    requires { length row.now.name ≤ 16 }
+    ensures { IfOk result (λ call. call ≡ close_call client row.now held.now seqid) }
+{
+    let args = CloseArgs {
+        seqid,
+        stateid: StateRef::Named(held.stateid),
+    };
+    Ok(Call {
+        caller: Some(instance_of(alloc, client, row)?),
+        file: held.handle,
+        deed: Deed::Close(args),
+    })
+}
+
+impl Clients {
+    /// Clients that know nothing yet. It takes no memory.
+    pub fn new(alloc: Global) -> Clients
+        ensures { result ≡ knows_nothing }
+    {
+        Clients {
+            alloc,
+            seqids: Vec::new(alloc),
+            held: Vec::new(alloc),
+        }
+    }
+
+    /// The call that a client's action sends. `None` exactly where it needs a stateid that the client hasn't.
+    #[tactic(auto, unfolding(crate::specs::ShortRun::call_of))]
+    pub fn call_of(
+        &self,
+        client: u32,
+        row: &ClientRow,
+        action: &Action,
+    ) -> Result<Option<Call>, Memory>
+        requires { length row.now.name ≤ 16 }
+        ensures { IfOk result (λ call. call ≡ call_of client row.now self.now action.now) }
+    {
+        let alloc = self.alloc;
+        match action {
+            Action::Open(a) => {
+                let seqid = find_seqid(&self.seqids, client, a.owner.items());
+                Ok(Some(make_open(alloc, client, row, a, OpenHow::NoCreate, seqid)?))
+            }
+            Action::Create(a) => {
+                let seqid = find_seqid(&self.seqids, client, a.owner.items());
+                Ok(Some(make_open(alloc, client, row, a, OpenHow::Unchecked, seqid)?))
+            }
+            Action::Close(a) => {
+                let seqid = find_seqid(&self.seqids, client, a.owner.items());
+                match find_held(&self.held, client, a.owner.items(), a.file.items()) {
+                    Some(held) => Ok(Some(make_close(alloc, client, row, held, seqid)?)),
+                    None => Ok(None),
+                }
+            }
+        }
+    }
+
+    // The reply to an OPEN.
+    fn learn_open(&mut self, client: u32, a: &OpenAction, reply: &Reply) -> Result<(), Memory>
+        ensures { OnOk result (self.new ≡ learned_open client a.now reply.now self.old) }
+    {
+        move_on(&mut self.seqids, client, &a.owner, reply.status)?;
+        Ok(hold_opened(&mut self.held, client, a, reply.value)?)
+    }
+
+    /// The reply to a client's action. After want of memory nothing is promised of what is known.
+    #[tactic(auto, unfolding(crate::specs::ShortRun::learned))]
+    pub fn learn(&mut self, client: u32, action: &Action, reply: &Reply) -> Result<(), Memory>
+        ensures { OnOk result (self.new ≡ learned client action.now reply.now self.old) }
+    {
+        match action {
+            Action::Open(a) | Action::Create(a) => Ok(self.learn_open(client, a, reply)?),
+            Action::Close(a) => {
+                move_on(&mut self.seqids, client, &a.owner, reply.status)?;
+                hold_closed(&mut self.held, client, a, reply.value);
+                Ok(())
+            }
+        }
+    }
+}

@@ -1,0 +1,378 @@
+-- In every legal list the table of opens keeps each owner's share, and no two owners' shares of a file conflict.
+use Rattle.std.proofs.Common.{◌≡◌, ◌≢◌, ℕ, ◌+◌, Bool, true, false, cond, List, [], ◌∷◌, Option, Some, None, refl, ap, sym, subst, ◌∙◌, inl, inr, arith, eqb-true}
+use Rattle.std.specs.Prelude.{not, ◌==◌, ◌&&◌, filter, find, option_map}
+use Rattle.std.proofs.lemmas.Bool.{false≢true, both_ways, eqb-false}
+use Rattle.std.proofs.lemmas.Bool.Decides.{nat_tests}
+use Rattle.nm_rules.specs.Parties.{Party, same_party}
+use Rattle.nm_rules.specs.Owners.{same_owner}
+use Rattle.nm_rules.specs.Shares.{open_at, open_of, opened_row, is_opposed, is_open_of, put_open, opens_after, shares_conflict}
+use Rattle.nm_rules.specs.Shares.OpenWord.{DropOf}
+use Rattle.nm_rules.specs.Past.{Past, Now, now, words, no_words, is_done, deed_words, close_words, opener}
+use Rattle.nm_rules.specs.Seen.{Seen, seen, look, after, after_words}
+use Rattle.nm_rules.specs.Checks.{Stop, first}
+use Rattle.nm_rules.specs.Checks.Stop.{Refuse, Repeat}
+use Rattle.nm_rules.specs.Opens.{open_checks, open_value, close_checks, close_value, closed_stateid, open_named, row_to_open, file_to_open}
+use Rattle.nm_rules.specs.Answer.{answer_to, reply_by, reply_with, refused_value, ok_value, checks, IsLegal}
+use Rattle.nm_rules.specs.Sound.{IsSound, rises, are_apart, all_apart}
+use Rattle.nm_rules.specs.Readings.{Share, row_share, share_in, share_of, ends_share, takes_share, asked_share, deed_share, joined, opens, closes, names_open_of, AreCompatible}
+use Rattle.nm_rules.specs.declared.calls.Call.{Call}
+use Rattle.nm_rules.specs.declared.calls.Deed.{Deed}
+use Rattle.nm_rules.specs.declared.calls.Deed.TheVariants.{Open, Close}
+use Rattle.nm_rules.specs.declared.calls.CloseArgs.{CloseArgs}
+use Rattle.nm_rules.specs.declared.calls.StateRef.{StateRef}
+use Rattle.nm_rules.specs.declared.calls.StateRef.TheVariants.{Zeros, Ones, Named}
+use Rattle.nm_rules.specs.declared.calls.Owner.{Owner}
+use Rattle.nm_rules.specs.declared.calls.Verdict.{Verdict}
+use Rattle.nm_rules.specs.declared.calls.Event.{Event}
+use Rattle.nm_rules.specs.declared.calls.Event.TheVariants.{Asked, Ended}
+use Rattle.nm_rules.specs.declared.calls.Reply.{Reply}
+use Rattle.nm_rules.specs.declared.calls.ReplyValue.TheVariants.{Close as CloseReply}
+use Rattle.nm_rules.specs.declared.status.OpStatus.{OpStatus}
+use Rattle.nm_rules.specs.declared.rows.OpenRow.{OpenRow}
+use Rattle.nm_rules.proofs.OwnerLemmas.{same_owner-Decides}
+use Rattle.nm_rules.proofs.OpenRows.{IsIn, and_parts, open_at-past, open_at-in, in-open_at, in-filter}
+use Rattle.nm_rules.proofs.Apart.{Suits, apart_in, opened_suits, open_of-in}
+use Rattle.nm_rules.proofs.Legal.{same_row, open_goes, never_repeats, words-refused, sound-seen, look-seen}
+
+fails_unless : (b : Bool) → (b ≡ true → ⊥) → b ≡ false
+fails_unless true never = absurd (never refl)
+fails_unless false never = refl
+
+keeps_unless : (b : Bool) → (b ≡ true → ⊥) → not b ≡ true
+keeps_unless true never = absurd (never refl)
+keeps_unless false never = refl
+
+-- A search that each row fails finds none.
+find-none : (p : OpenRow → Bool) (rows : List OpenRow) → ((y : OpenRow) → IsIn y rows → p y ≡ false) → find p rows ≡ None
+find-none p [] fails = refl
+find-none p (y ∷ ys) fails = rw (fails y (inl refl)) (find-none p ys (λ x within. fails x (inr within)))
+
+-- A search finds the same after a filter that keeps all that it may find.
+find-filter : (p q : OpenRow → Bool) (rows : List OpenRow) → ((y : OpenRow) → IsIn y rows → p y ≡ true → q y ≡ true) → find p (filter q rows) ≡ find p rows
+find-filter p q [] keeps = refl
+find-filter p q (y ∷ ys) keeps = by_tests (p y) (q y) refl refl (keeps y (inl refl)) (find-filter p q ys (λ x within. keeps x (inr within)))
+  where
+    by_tests : (b c : Bool) → p y ≡ b → q y ≡ c → (p y ≡ true → q y ≡ true) → find p (filter q ys) ≡ find p ys
+        → find p (cond c (y ∷ filter q ys) (filter q ys)) ≡ cond b (Some y) (find p ys)
+    by_tests b true is_p is_q keep later = rw is_p (ap (cond b (Some y)) later)
+    by_tests true false is_p is_q keep later = absurd (both_ways (q y) is_q (keep is_p))
+    by_tests false false is_p is_q keep later = later
+
+-- rows of one counter are of one owner and file
+abbrev Replaces : OpenRow → List OpenRow → Type 0
+Replaces row rows = (y : OpenRow) → IsIn y rows → y.counter ≡ row.counter → (y.owner ≡ row.owner) × (y.file ≡ row.file)
+
+same_is : (owner : Owner) (file : ℕ) (y row : OpenRow) → (y.owner ≡ row.owner) × (y.file ≡ row.file) → is_open_of owner file y ≡ is_open_of owner file row
+same_is owner file y row same = rw (same.0, same.1) refl
+
+clash : (f o c : Bool) → f ≡ true → o ≡ true → cond f (not o && c) true ≡ true → ⊥
+clash true true c yes_f yes_o apart = false≢true apart
+clash false o c not_f yes_o apart = false≢true not_f
+clash true false c yes_f not_o apart = false≢true not_o
+
+-- two rows of one owner and file aren't apart
+not_apart : (owner : Owner) (file : ℕ) (a b : OpenRow) → is_open_of owner file a ≡ true → is_open_of owner file b ≡ true → are_apart a b ≡ true → ⊥
+not_apart owner file a b of_a of_b apart =
+    let pa = and_parts (a.file == file) (same_owner owner a.owner) of_a in
+    let pb = and_parts (b.file == file) (same_owner owner b.owner) of_b in
+    let file_a : a.file ≡ file = eqb-true a.file file pa.0 in
+    let file_b : b.file ≡ file = eqb-true b.file file pb.0 in
+    let owners : a.owner ≡ b.owner = sym ((same_owner-Decides owner a.owner).0 pa.1) ∙ (same_owner-Decides owner b.owner).0 pb.1 in
+    clash (a.file == b.file) (same_owner a.owner b.owner) _ (grind (arith, nat_tests)) ((same_owner-Decides a.owner b.owner).1 owners) apart
+
+open_of-put : (owner : Owner) (file : ℕ) (row : OpenRow) (rows : List OpenRow) → Suits row rows → Replaces row rows
+    → open_of owner file (put_open row rows) ≡ cond (is_open_of owner file row) (Some row) (open_of owner file rows)
+unfolding open_of
+open_of-put owner file row [] suits replaces = refl
+open_of-put owner file row (y ∷ ys) suits replaces =
+    by_tests (y.counter == row.counter) (is_open_of owner file y) (is_open_of owner file row) refl refl refl
+    (open_of-put owner file row ys (λ x within ne. suits x (inr within) ne) (λ x within e. replaces x (inr within) e))
+  where
+    by_tests : (b c d : Bool) → (y.counter == row.counter) ≡ b → is_open_of owner file y ≡ c → is_open_of owner file row ≡ d
+        → find (is_open_of owner file) (put_open row ys) ≡ cond (is_open_of owner file row) (Some row) (find (is_open_of owner file) ys)
+        → find (is_open_of owner file) (cond b (row ∷ ys) (y ∷ put_open row ys)) ≡ cond d (Some row) (cond c (Some y) (find (is_open_of owner file) ys))
+    by_tests true c true same is_y is_row later = rw is_row refl
+    by_tests true false false same is_y is_row later = rw is_row refl
+    by_tests true true false same is_y is_row later =
+        absurd (false≢true (sym is_row ∙ sym (same_is owner file y row (replaces y (inl refl) (eqb-true y.counter row.counter same))) ∙ is_y))
+    by_tests false true true other is_y is_row later =
+        absurd (not_apart owner file row y is_row is_y (suits y (inl refl) (eqb-false y.counter row.counter other)))
+    by_tests false true false other is_y is_row later = rw is_y refl
+    by_tests false false d other is_y is_row later = rw is_y (later ∙ rw is_row refl)
+
+-- a CLOSE of the open with that counter takes its owner's open, and no other
+open_of-drop : (above last : ℕ) (owner : Owner) (file : ℕ) (rows : List OpenRow) (row : OpenRow) → rises above last rows ≡ true → all_apart rows ≡ true
+    → open_at row.counter rows ≡ Some row
+    → open_of owner file (filter (λ x. not (x.counter == row.counter)) rows) ≡ cond (is_open_of owner file row) None (open_of owner file rows)
+unfolding open_of
+open_of-drop above last owner file rows row rising apart there = by_test (is_open_of owner file row) refl
+  where
+    within : IsIn row rows
+    within = (open_at-in row.counter rows row there).0
+
+    one_row : (y : OpenRow) → IsIn y rows → y.counter ≡ row.counter → y ≡ row
+    one_row y at e =
+        let found : open_at y.counter rows ≡ Some y = (in-open_at above last rows y rising at).0 in
+        let found_too : open_at y.counter rows ≡ Some row = rw e there in
+        cc
+
+    fails : is_open_of owner file row ≡ true → (y : OpenRow) → IsIn y (filter (λ x. not (x.counter == row.counter)) rows) → is_open_of owner file y ≡ false
+    fails is_row y at =
+        let kept = in-filter (λ x. not (x.counter == row.counter)) rows y at in
+        let other : y.counter ≢ row.counter = λ e. grind (arith, nat_tests, kept.1) in
+        fails_unless (is_open_of owner file y) (λ is_y. not_apart owner file y row is_y is_row (apart_in rows y row apart kept.0 within other))
+
+    by_test : (b : Bool) → is_open_of owner file row ≡ b
+        → find (is_open_of owner file) (filter (λ x. not (x.counter == row.counter)) rows) ≡ cond b None (find (is_open_of owner file) rows)
+    by_test true is_row = find-none (is_open_of owner file) (filter (λ x. not (x.counter == row.counter)) rows) (fails is_row)
+    by_test false not_row = find-filter (is_open_of owner file) (λ x. not (x.counter == row.counter)) rows
+        (λ y at is_y. keeps_unless (y.counter == row.counter) (λ e. both_ways (is_open_of owner file row) not_row
+        (ap (is_open_of owner file) (sym (one_row y at (eqb-true y.counter row.counter e))) ∙ is_y)))
+
+-- the end of an instance takes the opens of its owners, and no other
+open_of-drop_of : (party : Party) (owner : Owner) (file : ℕ) (rows : List OpenRow)
+    → open_of owner file (filter (λ x. not (same_party party x.owner.instance)) rows) ≡ cond (same_party party owner.instance) None (open_of owner file rows)
+unfolding open_of
+open_of-drop_of party owner file rows = by_test (same_party party owner.instance) refl
+  where
+    its_owner : (y : OpenRow) → is_open_of owner file y ≡ true → same_party party y.owner.instance ≡ same_party party owner.instance
+    its_owner y is_y = ap (λ (o : Owner). same_party party o.instance) (sym ((same_owner-Decides owner y.owner).0 (and_parts (y.file == file) (same_owner owner y.owner) is_y).1))
+
+    kept_fails : (b : Bool) → not b ≡ true → b ≡ true → ⊥
+    kept_fails true k e = false≢true k
+    kept_fails false k e = false≢true e
+
+    by_test : (b : Bool) → same_party party owner.instance ≡ b
+        → find (is_open_of owner file) (filter (λ x. not (same_party party x.owner.instance)) rows) ≡ cond b None (find (is_open_of owner file) rows)
+    by_test true its = find-none (is_open_of owner file) (filter (λ x. not (same_party party x.owner.instance)) rows)
+        (λ y at. fails_unless (is_open_of owner file y)
+        (λ is_y. kept_fails (same_party party y.owner.instance) (in-filter (λ x. not (same_party party x.owner.instance)) rows y at).1 (its_owner y is_y ∙ its)))
+    by_test false other = find-filter (is_open_of owner file) (λ x. not (same_party party x.owner.instance)) rows
+        (λ y at is_y. keeps_unless (same_party party y.owner.instance) (λ e. both_ways (same_party party owner.instance) other (sym (its_owner y is_y) ∙ e)))
+
+-- what an entry leaves of an owner's share
+abbrev pub share_left : Now → Owner → ℕ → Event → Reply → Option Share → Option Share
+share_left n owner file event r before =
+    cond (ends_share n owner file event r) None (cond (takes_share n owner file event r) (joined before (asked_share event)) before)
+
+map_cond : (b : Bool) (o : Option OpenRow) → option_map row_share (cond b None o) ≡ cond b None (option_map row_share o)
+map_cond true o = refl
+map_cond false o = refl
+
+-- a row that an OPEN leaves: its owner's, of its file, with both shares
+opened_is : (o : Option OpenRow) (rows : List OpenRow) (counter file access deny : ℕ) (mine : Owner) → open_of mine file rows ≡ o
+    → ((opened_row o counter file mine access deny).owner ≡ mine) × ((opened_row o counter file mine access deny).file ≡ file)
+unfolding opened_row
+opened_is None rows counter file access deny mine none = (refl, refl)
+opened_is (Some row) rows counter file access deny mine found =
+    let parts = and_parts (row.file == file) (same_owner mine row.owner) (open_of-in mine file rows row found).1 in
+    (sym ((same_owner-Decides mine row.owner).0 parts.1), eqb-true row.file file parts.0)
+
+opened_share : (o : Option OpenRow) (counter file access deny : ℕ) (mine : Owner)
+    → Some (row_share (opened_row o counter file mine access deny)) ≡ joined (option_map row_share o) (record { access = access; deny = deny })
+unfolding opened_row
+opened_share None counter file access deny mine = refl
+opened_share (Some row) counter file access deny mine = refl
+
+opened_replaces : (last : ℕ) (o : Option OpenRow) (rows : List OpenRow) (file access deny : ℕ) (mine : Owner) → rises 0 last rows ≡ true → open_of mine file rows ≡ o
+    → Replaces (opened_row o (last + 1) file mine access deny) rows
+unfolding opened_row
+opened_replaces last None rows file access deny mine rising none y at e =
+    let found : open_at y.counter rows ≡ Some y = (in-open_at 0 last rows y rising at).0 in
+    let absent : open_at y.counter rows ≡ None = open_at-past 0 last rows y.counter rising (omega (arith, e)) in
+    cc
+opened_replaces last (Some row) rows file access deny mine rising found y at e =
+    let found_y : open_at y.counter rows ≡ Some y = (in-open_at 0 last rows y rising at).0 in
+    let found_row : open_at y.counter rows ≡ Some row = rw e (in-open_at 0 last rows row rising (open_of-in mine file rows row found).0).0 in
+    let same : y ≡ row = cc in
+    (ap (λ (r : OpenRow). r.owner) same, ap (λ (r : OpenRow). r.file) same)
+
+-- an OPEN that acts joins its share to what its owner had, and leaves others' shares
+share-put : (last : ℕ) (rows : List OpenRow) (mine : Owner) (its_file access deny : ℕ) (owner : Owner) (file : ℕ)
+    → rises 0 last rows ≡ true → all_apart rows ≡ true → is_opposed mine its_file access deny rows ≡ false
+    → share_in owner file (put_open (opened_row (open_of mine its_file rows) (last + 1) its_file mine access deny) rows)
+    ≡ cond ((its_file == file) && same_owner owner mine) (joined (share_in owner file rows) (record { access = access; deny = deny })) (share_in owner file rows)
+share-put last rows mine its_file access deny owner file rising apart free =
+    ap (option_map row_share) (open_of-put owner file row rows suits replaces)
+    ∙ ap (λ b. option_map row_share (cond b (Some row) (open_of owner file rows))) same_test
+    ∙ by_test ((its_file == file) && same_owner owner mine) refl
+  where
+    row : OpenRow
+    row = opened_row (open_of mine its_file rows) (last + 1) its_file mine access deny
+
+    suits : Suits row rows
+    suits = opened_suits mine its_file (last + 1) access deny rows apart free
+
+    replaces : Replaces row rows
+    replaces = opened_replaces last (open_of mine its_file rows) rows its_file access deny mine rising refl
+
+    same_test : is_open_of owner file row ≡ ((its_file == file) && same_owner owner mine)
+    same_test =
+        let its = opened_is (open_of mine its_file rows) rows (last + 1) its_file access deny mine refl in
+        ap (λ f. (f == file) && same_owner owner row.owner) its.1 ∙ ap (λ o. (its_file == file) && same_owner owner o) its.0
+
+    share : Share
+    share = record { access = access; deny = deny }
+
+    by_test : (b : Bool) → ((its_file == file) && same_owner owner mine) ≡ b
+        → option_map row_share (cond b (Some row) (open_of owner file rows)) ≡ cond b (joined (share_in owner file rows) share) (share_in owner file rows)
+    by_test false other = refl
+    by_test true its =
+        let parts = and_parts (its_file == file) (same_owner owner mine) its in
+        opened_share (open_of mine its_file rows) (last + 1) its_file access deny mine
+        ∙ ap (λ f. joined (share_in mine f rows) share) (eqb-true its_file file parts.0)
+        ∙ ap (λ o. joined (share_in o file rows) share) (sym ((same_owner-Decides owner mine).0 parts.1))
+
+none_either_way : (b : Bool) → cond b false false ≡ false
+none_either_way true = refl
+none_either_way false = refl
+
+-- a refusal leaves every share
+refused_leaves : (n : Now) (owner : Owner) (file : ℕ) (call : Call) (verdict : Verdict) (status : OpStatus) (before : Option Share)
+    → share_left n owner file (Asked call verdict) (reply_with status (refused_value call.deed)) before ≡ before
+refused_leaves n owner file call verdict status before = by_deed call.caller call.deed
+  where
+    by_deed : (caller : Option Party) (deed : Deed)
+        → cond (cond (is_done status) (closes n owner file deed (refused_value deed)) false) None
+        (cond (cond (is_done status) (opens owner file caller deed (refused_value deed)) false) (joined before (deed_share deed)) before) ≡ before
+    by_deed None (Open args) = rw none_either_way refl
+    by_deed (Some party) (Open args) = rw none_either_way refl
+    by_deed None (Close args) = rw none_either_way refl
+    by_deed (Some party) (Close args) = rw none_either_way refl
+
+-- the open that a stateid names is found by its counter
+pub named_is_live : (s : Seen) (id : StateRef) (row : OpenRow) → open_named s id ≡ Some row → open_at row.counter s.opens ≡ Some row
+unfolding open_named
+named_is_live s Zeros row found = cc
+named_is_live s Ones row found = cc
+named_is_live s (Named id) row found = by_fs (id.fs == s.fs) found
+  where
+    by_fs : (b : Bool) → cond b (open_at id.counter s.opens) None ≡ Some row → open_at row.counter s.opens ≡ Some row
+    by_fs true here = ap (λ k. open_at k s.opens) (open_at-in id.counter s.opens row here).1 ∙ here
+    by_fs false elsewhere = cc
+
+-- what a CLOSE that nothing stops leaves of a share
+closed_share : (s : Seen) (args : CloseArgs) (o : Option OpenRow) (owner : Owner) (file : ℕ) → IsSound s
+    → ((row : OpenRow) → o ≡ Some row → open_at row.counter s.opens ≡ Some row)
+    → share_in owner file (opens_after (close_words (CloseReply (closed_stateid s.fs o))).opens s.opens)
+    ≡ cond (closes (look s) owner file (Close args) (CloseReply (closed_stateid s.fs o))) None (share_in owner file s.opens)
+unfolding opens_after look
+closed_share s args None owner file sound live = refl
+closed_share s args (Some row) owner file sound live =
+    ap (option_map row_share) (open_of-drop 0 s.last owner file s.opens row sound.rising sound.apart (live row refl))
+    ∙ map_cond (is_open_of owner file row) (open_of owner file s.opens)
+    ∙ ap (λ o. cond (names_open_of owner file o) None (share_in owner file s.opens)) (sym (live row refl))
+
+kept_share : (s : Seen) (owner : Owner) (file : ℕ) → share_in owner file (after_words s no_words).opens ≡ share_in owner file s.opens
+unfolding after_words opens_after
+kept_share s owner file = refl
+
+ended_share : (s : Seen) (party : Party) (owner : Owner) (file : ℕ)
+    → share_in owner file (after_words s (record no_words { opens = DropOf party })).opens ≡ cond (same_party party owner.instance) None (share_in owner file s.opens)
+unfolding after_words opens_after
+ended_share s party owner file =
+    ap (option_map row_share) (open_of-drop_of party owner file s.opens) ∙ map_cond (same_party party owner.instance) (open_of owner file s.opens)
+
+nothing_shared : (owner : Owner) (file : ℕ) → None ≡ share_in owner file []
+unfolding open_of
+nothing_shared owner file = refl
+
+-- what a call that nothing stops leaves of a share
+share_goes : (s : Seen) (caller : Option Party) (its_file : ℕ) (verdict : Verdict) (deed : Deed) (owner : Owner) (file : ℕ) → IsSound s
+    → first (checks s caller its_file verdict deed) ≡ None
+    → share_in owner file (after_words s (deed_words (look s) caller deed (ok_value s caller deed))).opens
+    ≡ cond (closes (look s) owner file deed (ok_value s caller deed)) None
+    (cond (opens owner file caller deed (ok_value s caller deed)) (joined (share_in owner file s.opens) (deed_share deed)) (share_in owner file s.opens))
+unfolding after_words opens_after open_value close_value open_checks close_checks row_to_open look
+share_goes s None its_file verdict (Open args) owner file sound goes = cc
+share_goes s (Some party) its_file verdict (Open args) owner file sound goes =
+    ap (λ r. share_in owner file (put_open r s.opens))
+    (same_row s.last s.opens (opener party args) (file_to_open s args) args.access args.deny sound.rising (open_of (opener party args) (file_to_open s args) s.opens) refl)
+    ∙ share-put s.last s.opens (opener party args) (file_to_open s args) args.access args.deny owner file sound.rising sound.apart
+    (open_goes s party args verdict goes).free
+share_goes s None its_file verdict (Close args) owner file sound goes =
+    closed_share s args (open_named s args.stateid) owner file sound (named_is_live s args.stateid)
+share_goes s (Some party) its_file verdict (Close args) owner file sound goes =
+    closed_share s args (open_named s args.stateid) owner file sound (named_is_live s args.stateid)
+
+-- the same, with the test that its status is OK
+done_share : (s : Seen) (call : Call) (verdict : Verdict) (owner : Owner) (file : ℕ) → IsSound s
+    → first (checks s call.caller call.file verdict call.deed) ≡ None
+    → share_in owner file (after s (Asked call verdict) (reply_by s call None)).opens
+    ≡ share_left (look s) owner file (Asked call verdict) (reply_by s call None) (share_in owner file s.opens)
+unfolding words is_done
+done_share s call verdict owner file sound goes = share_goes s call.caller call.file verdict call.deed owner file sound goes
+
+-- an event that is answered leaves of each share what it should
+share-after : (s : Seen) (event : Event) (owner : Owner) (file : ℕ) → IsSound s
+    → share_in owner file (after s event (answer_to s event)).opens ≡ share_left (look s) owner file event (answer_to s event) (share_in owner file s.opens)
+unfolding answer_to words
+share-after s (Ended party) owner file sound = ended_share s party owner file
+share-after s (Asked call verdict) owner file sound =
+    by_stop (first (checks s call.caller call.file verdict call.deed)) refl
+  where
+    by_stop : (x : Option Stop) → first (checks s call.caller call.file verdict call.deed) ≡ x
+        → share_in owner file (after s (Asked call verdict) (reply_by s call x)).opens
+        ≡ share_left (look s) owner file (Asked call verdict) (reply_by s call x) (share_in owner file s.opens)
+    by_stop (Some (Refuse status)) refused =
+        ap (λ w. share_in owner file (after_words s w).opens) (words-refused (look s) call verdict status)
+        ∙ kept_share s owner file
+        ∙ sym (refused_leaves (look s) owner file call verdict status (share_in owner file s.opens))
+    by_stop (Some (Repeat kept)) repeats = absurd (never_repeats s call.caller call.file verdict call.deed kept repeats)
+    by_stop None goes = done_share s call verdict owner file sound goes
+
+-- The table of a legal list keeps each owner's share.
+pub share-seen : (fs : ℕ) (grants : Bool) (es : Past) (owner : Owner) (file : ℕ) → IsLegal fs grants es
+    → share_of es owner file ≡ share_in owner file (seen fs grants es).opens
+unfolding seen share_of
+share-seen fs grants [] owner file legal = nothing_shared owner file
+share-seen fs grants (x ∷ earlier) owner file legal =
+    let s : Seen = seen fs grants earlier in
+    let before : Option Share = share_in owner file s.opens in
+    ap (share_left (now earlier) owner file x.event x.reply) (share-seen fs grants earlier owner file legal.1)
+    ∙ ap (λ n. share_left n owner file x.event x.reply before) (sym (look-seen fs grants earlier legal.1))
+    ∙ ap (λ r. share_left (look s) owner file x.event r before) legal.0
+    ∙ sym (share-after s x.event owner file (sound-seen fs grants earlier legal.1))
+    ∙ ap (λ r. share_in owner file (after s x.event r).opens) (sym legal.0)
+
+peaceful : (f o c : Bool) → f ≡ true → cond f (not o && not c) true ≡ true → c ≡ false
+peaceful true true c same apart = absurd (false≢true apart)
+peaceful true false true same apart = absurd (false≢true apart)
+peaceful true false false same apart = refl
+peaceful false o c no_file apart = absurd (false≢true no_file)
+
+-- two owners' opens of one file in a sound table don't conflict
+compatible_in : (last : ℕ) (rows : List OpenRow) (owner other : Owner) (file : ℕ) → rises 0 last rows ≡ true → all_apart rows ≡ true → owner ≢ other
+    → (a b : Option OpenRow) → open_of owner file rows ≡ a → open_of other file rows ≡ b → AreCompatible (option_map row_share a) (option_map row_share b)
+compatible_in last rows owner other file rising apart ne None b found_a found_b = tt
+compatible_in last rows owner other file rising apart ne (Some a) None found_a found_b = tt
+compatible_in last rows owner other file rising apart ne (Some a) (Some b) found_a found_b =
+    let in_a = open_of-in owner file rows a found_a in
+    let in_b = open_of-in other file rows b found_b in
+    let parts_a = and_parts (a.file == file) (same_owner owner a.owner) in_a.1 in
+    let parts_b = and_parts (b.file == file) (same_owner other b.owner) in_b.1 in
+    let owner_a : owner ≡ a.owner = (same_owner-Decides owner a.owner).0 parts_a.1 in
+    let owner_b : other ≡ b.owner = (same_owner-Decides other b.owner).0 parts_b.1 in
+    let file_a : a.file ≡ file = eqb-true a.file file parts_a.0 in
+    let file_b : b.file ≡ file = eqb-true b.file file parts_b.0 in
+    peaceful (a.file == b.file) (same_owner a.owner b.owner) (shares_conflict a.access a.deny b.access b.deny)
+    (grind (arith, nat_tests))
+    (apart_in rows a b apart in_a.0 in_b.0 (λ e. ne (one_owner a b owner_a owner_b in_a.0 in_b.0 e)))
+  where
+    one_owner : (a b : OpenRow) → owner ≡ a.owner → other ≡ b.owner → IsIn a rows → IsIn b rows → a.counter ≡ b.counter → owner ≡ other
+    one_owner a b owner_a owner_b at_a at_b e =
+        let found_a : open_at a.counter rows ≡ Some a = (in-open_at 0 last rows a rising at_a).0 in
+        let found_b : open_at a.counter rows ≡ Some b = rw e (in-open_at 0 last rows b rising at_b).0 in
+        let same : a ≡ b = cc in
+        owner_a ∙ ap (λ (r : OpenRow). r.owner) same ∙ sym owner_b
+
+-- No two owners hold conflicting shares of a file.
+pub shares_are_compatible : (fs : ℕ) (grants : Bool) (es : Past) (owner other : Owner) (file : ℕ) → IsLegal fs grants es → owner ≢ other
+    → AreCompatible (share_of es owner file) (share_of es other file)
+shares_are_compatible fs grants es owner other file legal ne =
+    let s : Seen = seen fs grants es in
+    let sound : IsSound s = sound-seen fs grants es legal in
+    let compatible : AreCompatible (share_in owner file s.opens) (share_in other file s.opens) =
+    compatible_in s.last s.opens owner other file sound.rising sound.apart ne (open_of owner file s.opens) (open_of other file s.opens) refl refl in
+    subst (λ o. AreCompatible o (share_of es other file)) (sym (share-seen fs grants es owner file legal))
+    (subst (λ o. AreCompatible (share_in owner file s.opens) o) (sym (share-seen fs grants es other file legal)) compatible)

@@ -1,0 +1,46 @@
+-- The tables of a file system, under the same words of change as what stands now.
+use Rattle.std.specs.Prelude.{ℕ, ◌+◌, Bool, List, [], ◌∷◌, if◌then◌else◌}
+use Rattle.nm_rules.specs.Files.{TreeNow, file_at, tree_after}
+use Rattle.nm_rules.specs.Shares.{open_at, opens_after}
+use Rattle.nm_rules.specs.Past.{Past, Now, Words, words}
+use Rattle.nm_rules.specs.declared.calls.Event.{Event}
+use Rattle.nm_rules.specs.declared.calls.Reply.{Reply}
+use Rattle.nm_rules.specs.declared.rows.OpenRow.{OpenRow}
+
+-- A file system: its number and whether it grants delegations, which never change, and its tables.
+pub record Seen : Type 0 where
+  pub fs : ℕ
+  pub grants : Bool
+  pub tree : TreeNow
+  pub opens : List OpenRow
+  -- the counter of the last stateid that was made
+  pub last : ℕ
+
+-- Before the first entry there is no file but the root, and nothing is held.
+abbrev pub empty : ℕ → Bool → Seen
+empty fs grants = record { fs = fs; grants = grants; tree = record { table = []; last_file = 15 }; opens = []; last = 0 }
+
+-- what stands, read off the tables
+unfoldable pub look : Seen → Now
+look s = record {
+  file_by = λ name. file_at name s.tree.table;
+  open_by = λ counter. open_at counter s.opens;
+  last = s.last;
+  last_file = s.tree.last_file;
+}
+
+unfoldable pub after_words : Seen → Words → Seen
+after_words s w = record s {
+  tree = tree_after w.file s.tree;
+  opens = opens_after w.opens s.opens;
+  last = if w.drew then s.last + 1 else s.last;
+}
+
+-- the tables after an event that was answered so
+abbrev pub after : Seen → Event → Reply → Seen
+after s event reply = after_words s (words (look s) event reply)
+
+-- the tables after a list of entries
+unfoldable pub seen : ℕ → Bool → Past → Seen
+seen fs grants [] = empty fs grants
+seen fs grants (x ∷ earlier) = after (seen fs grants earlier) x.event x.reply

@@ -1,0 +1,28 @@
+-- What holds of the tables of every legal list.
+use Rattle.std.specs.Prelude.{◌≡◌, ◌==◌, ◌&&◌, not, nat_lt, nat_le, ℕ, Bool, true, List, [], ◌∷◌, if◌then◌else◌}
+use Rattle.std.specs.List.{list_all}
+use Rattle.nm_rules.specs.Owners.{same_owner}
+use Rattle.nm_rules.specs.Shares.{shares_conflict}
+use Rattle.nm_rules.specs.Seen.{Seen}
+use Rattle.nm_rules.specs.declared.rows.OpenRow.{OpenRow}
+
+-- the counters rise, each above this one, and none is past the last
+abbrev pub rises : ℕ → ℕ → List OpenRow → Bool
+rises above last [] = nat_le above last
+rises above last (row ∷ rows) = nat_lt above row.counter && rises row.counter last rows
+
+-- Two rows may stand together: of one file they have different owners, whose shares don't conflict.
+abbrev pub are_apart : OpenRow → OpenRow → Bool
+are_apart a b =
+    if a.file == b.file
+    then not (same_owner a.owner b.owner) && not (shares_conflict a.access a.deny b.access b.deny)
+    else true
+
+-- each row and each later one
+abbrev pub all_apart : List OpenRow → Bool
+all_apart [] = true
+all_apart (row ∷ rows) = list_all (are_apart row) rows && all_apart rows
+
+pub record IsSound (s : Seen) : Type 0 where
+  pub rising : rises 0 s.last s.opens ≡ true
+  pub apart : all_apart s.opens ≡ true

@@ -1,0 +1,32 @@
+//! Laws of legal lists: each is the contract of a function that does nothing. They are over the definitions alone, and
+//! the contracts of the crates above bind the code to the same definitions.
+ghost use Rattle.std.specs.Prelude.{◌≡◌, ◌≢◌, ℕ, Bool};
+ghost use Rattle.nm_rules.specs.Past.{Past, now};
+ghost use Rattle.nm_rules.specs.Seen.{seen, look};
+ghost use Rattle.nm_rules.specs.Answer.{IsLegal};
+ghost use Rattle.nm_rules.specs.Sound.{IsSound};
+ghost use Rattle.nm_rules.specs.Readings.{share_of, share_in, AreCompatible};
+ghost use Rattle.nm_rules.specs.declared.calls.Owner.{Owner as AnyOwner};
+
+/// No two owners hold conflicting shares of a file (RFC 7530, 9.9): what one does is never what the other denies.
+pub fn shares_never_conflict()
+    ensures { (fs : ℕ) (grants : Bool) (es : Past) → IsLegal fs grants es
+        → (owner other : AnyOwner) (file : ℕ) → owner ≢ other
+        → AreCompatible (share_of es owner file) (share_of es other file) }
+{}
+
+/// The table of opens keeps the share of each owner on each file, as the entries tell it.
+pub fn tables_keep_shares()
+    ensures { (fs : ℕ) (grants : Bool) (es : Past) → IsLegal fs grants es
+        → (owner : AnyOwner) (file : ℕ) → share_of es owner file ≡ share_in owner file (seen fs grants es).opens }
+{}
+
+/// The tables show what stands: each look-up in them gives what the entries leave under its key.
+pub fn tables_show_what_stands()
+    ensures { (fs : ℕ) (grants : Bool) (es : Past) → IsLegal fs grants es → look (seen fs grants es) ≡ now es }
+{}
+
+/// The tables of a legal list are sound: counters rise up to the last, and all opens may stand together.
+pub fn legal_tables_are_sound()
+    ensures { (fs : ℕ) (grants : Bool) (es : Past) → IsLegal fs grants es → IsSound (seen fs grants es) }
+{}

@@ -1,0 +1,7 @@
+use Rattle.std.proofs.Common.{◌≡◌, ◌++◌, flat_map, take}
+use Rattle.nm_script.specs.Text.{held_row_text}
+use Rattle.nm_script.proofs.text.append_held_rows.Given as goal
+
+-- the rows so far are written
+abbrev pub invariant-loop-row : goal.invariant-loop-row
+invariant-loop-row l = l.out.items ≡ l.initial.out.items ++ flat_map held_row_text (take l.row-index l.rows)

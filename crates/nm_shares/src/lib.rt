@@ -1,0 +1,11 @@
+//! The opens of one file system (RFC 7530, 9.9).
+#![tactic(auto)]
+
+mod rows;
+mod shares;
+mod state;
+#[cfg(test)]
+mod tests;
+
+pub use shares::Shares;
+pub use state::State;

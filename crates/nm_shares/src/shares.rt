@@ -1,0 +1,133 @@
+//! The opens of one file system.
+ghost use Rattle.std.specs.Prelude.{◌≡◌, ◌<◌, ◌^◌, ◌↔◌, ℕ, true, IsSome, IfSome, IfOk, OnOk, OnErr, option_copied};
+ghost use Rattle.nm_rules.specs.Shares.{open_at, is_opposed};
+ghost use Rattle.nm_rules.specs.Opens.{is_share};
+ghost use Rattle.nm_rules.specs.Sound.{rises};
+ghost use Rattle.nm_shares.specs.Rows.{no_opens, Tells, take_answer, after_take, after_close, closed_state};
+
+use crate::State;
+use crate::rows::{copy_rows, drop_at, find_at, opposed, seqid_after, take};
+use nm_rules::{FsNum, Memory, OpStatus, OpenRow, Owner, Refusal};
+use std::alloc::Global;
+use std::marker::Model;
+
+/// The live opens of one file system, by rising counter, with the counter of the last stateid that was made.
+#[derive(Debug, Drop)]
+pub struct Shares {
+    fs: FsNum,
+    grants: bool,
+    rows: Vec<OpenRow>,
+    last: u64,
+}
+
+impl Model for Shares {
+    ghost use Rattle.nm_shares.specs.Rows.{SharesNow};
+
+    ghost Value = { SharesNow };
+
+    ghost use Rattle.std.specs.Prelude.{◌≡◌, true};
+    ghost use Rattle.nm_rules.specs.Sound.{rises};
+
+    ghost view = { λ s. record { fs = s.fs; grants = s.grants; table = s.rows.items; last = s.last } };
+
+    ghost invariant = { λ s. rises 0 s.last s.rows.items ≡ true };
+}
+
+impl Shares {
+    /// No opens yet, in that file system. It takes no memory.
+    pub fn new(alloc: Global, fs: FsNum, grants: bool) -> Shares
+        ensures { result ≡ no_opens fs grants }
+    {
+        Shares {
+            fs,
+            grants,
+            rows: Vec::new(alloc),
+            last: 0,
+        }
+    }
+
+    /// The live opens, by rising counter.
+    pub fn rows(&self) -> &[OpenRow]
+        ensures table { result.now ≡ self.now.table }
+        ensures rising { rises 0 self.now.last self.now.table ≡ true }
+    {
+        &self.rows
+    }
+
+    /// The counter of the last stateid that was made, 0 before the first.
+    pub fn last(&self) -> u64
+        ensures { result ≡ self.now.last }
+    {
+        self.last
+    }
+
+    /// The live open of that counter. `None` exactly where there is none.
+    pub fn open_at(&self, counter: u64) -> Option<&OpenRow>
+        ensures { option_copied result ≡ open_at counter self.now.table }
+    {
+        find_at(&self.rows, counter)
+    }
+
+    /// Whether another owner's open of the file conflicts with this share (RFC 7530, 9.9).
+    pub fn is_opposed(&self, owner: &Owner, file: u64, access: u32, deny: u32) -> bool
+        ensures { result ≡ is_opposed owner.now file access deny self.now.table }
+    {
+        opposed(&self.rows, owner, file, access, deny)
+    }
+
+    /// Opens a file for an owner, or joins what the owner has open there (RFC 7530, 16.16). `SHARE_DENIED` exactly
+    /// where another owner's open of the file conflicts. After an error nothing has changed.
+    #[tactic(auto, unfolding(crate::specs::Rows::take_answer, crate::specs::Rows::after_take))]
+    pub fn take_open(
+        &mut self,
+        owner: &Owner,
+        file: u64,
+        access: u32,
+        deny: u32,
+    ) -> Result<State, Refusal>
+        requires room { self.old.last < 2 ^ 63 }
+        requires share { is_share access deny ≡ true }
+
+        ensures rising { rises 0 self.old.last self.old.table ≡ true }
+        ensures answer { Tells result (take_answer self.old owner.now file access deny) }
+        ensures ok { OnOk result (self.new ≡ after_take self.old owner.now file access deny) }
+        ensures err { OnErr result (self.new ≡ self.old) }
+    {
+        if opposed(&self.rows, owner, file, access, deny) {
+            return Err(Refusal::Status(OpStatus::ShareDenied));
+        }
+        let (state, last) = take(&mut self.rows, self.last, owner, file, access, deny)?;
+        self.last = last;
+        Ok(state)
+    }
+
+    /// Closes the live open of that counter. Its state is told with the seqid that a CLOSE answers (RFC 7530, 16.2).
+    #[tactic(auto, unfolding(nm_rules::specs::Shares::opens_after))]
+    pub fn close(&mut self, counter: u64) -> State
+        requires live { IsSome (open_at counter self.old.table) }
+        ensures state { IfSome (open_at counter self.old.table) (λ row. result ≡ closed_state row) }
+        ensures closed { self.new ≡ after_close self.old counter }
+    {
+        let state = match find_at(&self.rows, counter) {
+            Some(row) => State {
+                counter: row.counter,
+                seqid: seqid_after(row.seqid),
+            },
+            None => unreachable!(),
+        };
+        drop_at(&mut self.rows, counter);
+        state
+    }
+
+    /// The same opens once more.
+    pub fn copy(&self) -> Result<Shares, Memory>
+        ensures { IfOk result (λ shares. shares ≡ self.now) }
+    {
+        Ok(Shares {
+            fs: self.fs,
+            grants: self.grants,
+            rows: copy_rows(*self.rows.allocator(), &self.rows)?,
+            last: self.last,
+        })
+    }
+}

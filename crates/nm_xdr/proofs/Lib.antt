@@ -1,0 +1,4 @@
+pub mod FieldLaws
+pub mod ItemLaws
+pub mod CutLaws
+pub mod ExactLaws
