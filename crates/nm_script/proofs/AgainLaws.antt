@@ -1,12 +1,11 @@
 -- The lines of a script, read one after the other, give the script.
-use Rattle.std.proofs.Common.{◌≡◌, ℕ, zero, suc, ◌+◌, ◌<◌, ◌≤◌, ◌^◌, Bool, true, false, cond, not, eqb, ltb, leb, List, [], ◌∷◌, ◌++◌, length, get_or, map, Option, Some, None, Result, Ok, Err, refl, sym, ap, subst, ◌∙◌, append_assoc, arith, ◌⊎◌, inl, inr, All}
-use Rattle.std.specs.Prelude.{◌||◌, ◌&&◌, codes}
+use Rattle.std.proofs.Common.{◌≡◌, ℕ, ◌+◌, ◌<◌, ◌≤◌, ◌^◌, Bool, true, false, cond, not, ltb, List, [], ◌∷◌, ◌++◌, length, map, Option, Some, Result, Ok, Err, refl, sym, ap, subst, ◌∙◌, append_assoc, arith}
+use Rattle.std.specs.Prelude.{◌&&◌, codes}
 use Rattle.std.specs.List.{list_any, AllByRecursion}
-use Rattle.std.specs.Fmt.{decimal}
 use Rattle.std.specs.Str.{bytes_eq}
 use Rattle.std.proofs.lemmas.Bool.{le-leb, lt-ltb, ne_eqb}
-use Rattle.std.proofs.lemmas.List.{append-nil, length-append, length-map, map-append}
-use Rattle.std.proofs.lemmas.List.Elements.{All-head, All-tail, recursion_from_All}
+use Rattle.std.proofs.lemmas.List.{append-nil, length-append}
+use Rattle.std.proofs.lemmas.List.Elements.{recursion_from_All}
 use Rattle.nm_script.specs.declared.script.Head.{Head}
 use Rattle.nm_script.specs.declared.script.ServerRow.{ServerRow}
 use Rattle.nm_script.specs.declared.script.FsRow.{FsRow}
@@ -17,13 +16,14 @@ use Rattle.nm_script.specs.declared.script.Script.{Script}
 use Rattle.nm_script.specs.declared.script.Why.{Why}
 use Rattle.nm_script.specs.declared.script.Why.TheVariants as why
 use Rattle.nm_script.specs.declared.draft.Draft.{Draft}
-use Rattle.nm_script.specs.declared.draft.Kind.{Kind}
-use Rattle.nm_script.specs.declared.draft.Kind.TheVariants as kind
+use Rattle.nm_script.specs.declared.order.Kind.{Kind}
+use Rattle.nm_script.specs.declared.order.Kind.TheVariants as kind
+use Rattle.nm_script.specs.Words.{has_empty_word}
 use Rattle.nm_script.specs.Grammar.{name_at, server_names, file_system_names, client_names, all_names, all_differ, version_words, lease_words, server_words, file_system_words, client_words, run_words, script_words, IsName, IsHead, IsRun, IsWellFormed}
-use Rattle.nm_script.specs.Reading.{◌>>=◌, kind_of, first_kind, may_follow, has_empty_word, is_new_name, server_number, nothing_yet, version_at, lease_at, with_server, server_at, with_file_system, file_system_at, with_client, client_at, run_line, run_at, kind_at, words_at, is_client_kind, is_past_clients, finished}
-use Rattle.nm_script.proofs.WordLaws.{or_false, and_true, not_true, IsWord, number_again, decimal_is_word, name_is_word}
+use Rattle.nm_script.specs.Reading.{◌>>=◌, kind_of, first_kind, may_follow, server_number, nothing_yet, version_at, lease_at, with_server, server_at, with_file_system, file_system_at, with_client, client_at, run_at, kind_at, words_at, is_client_kind, is_past_clients, finished}
+use Rattle.nm_script.proofs.WordLaws.{and_true, IsWord, number_again, decimal_is_word, name_is_word}
 use Rattle.nm_script.proofs.RunLaws.{bind_ok, ok_is, place_again, HasNames, run_again, run_are_words, keyword, word_in}
-use Rattle.nm_script.proofs.DraftLaws.{both_true, push_there, differ_front, differ_new, new_again, is_among, versioned, leased, served, placed, joined, ran}
+use Rattle.nm_script.proofs.DraftLaws.{push_there, differ_front, differ_new, new_again, is_among, versioned, leased, served, placed, joined, ran}
 
 -- ---- reading the words of one line, and of several
 

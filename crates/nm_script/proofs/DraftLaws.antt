@@ -1,28 +1,26 @@
 -- What one more line adds to what the lines so far say.
-use Rattle.std.proofs.Common.{◌≡◌, ℕ, zero, suc, ◌+◌, ◌<◌, ◌≤◌, ◌^◌, Bool, true, false, cond, not, eqb, ltb, leb, List, [], ◌∷◌, ◌++◌, length, get_or, map, Option, Some, None, Result, Ok, Err, refl, sym, ap, subst, ◌∙◌, append_assoc, arith, ◌⊎◌, inl, inr, All}
+use Rattle.std.proofs.Common.{◌≡◌, ℕ, suc, ◌<◌, ◌≤◌, ◌^◌, Bool, true, false, cond, not, eqb, ltb, leb, List, [], ◌∷◌, ◌++◌, length, get_or, map, Option, Some, None, Ok, Err, refl, sym, ap, subst, ◌∙◌, append_assoc, arith, inl, inr, All}
 use Rattle.std.specs.Prelude.{◌||◌, ◌&&◌, codes}
-use Rattle.std.specs.List.{list_any, AllByRecursion}
+use Rattle.std.specs.List.{list_any}
 use Rattle.std.specs.Str.{bytes_eq}
-use Rattle.std.specs.Fmt.{decimal}
-use Rattle.std.proofs.lemmas.Bool.{cases_lt, leb-true, le-leb, ltb-true, ltb-false, lt-ltb, eqb-true}
-use Rattle.std.proofs.lemmas.List.{append-nil, length-append, length-map, map-append, nil_from_length}
+use Rattle.std.proofs.lemmas.Bool.{cases_lt, leb-true, ltb-true, eqb-true}
+use Rattle.std.proofs.lemmas.List.{append-nil, length-append, map-append, nil_from_length}
 use Rattle.std.proofs.lemmas.List.Folds.{list_any-append}
-use Rattle.std.proofs.lemmas.List.Elements.{All-push, All-nil, All-append}
+use Rattle.std.proofs.lemmas.List.Elements.{All-push, All-nil}
 use Rattle.nm_script.specs.declared.script.Head.{Head}
 use Rattle.nm_script.specs.declared.script.ServerRow.{ServerRow}
 use Rattle.nm_script.specs.declared.script.FsRow.{FsRow}
 use Rattle.nm_script.specs.declared.script.ClientRow.{ClientRow}
 use Rattle.nm_script.specs.declared.script.Line.{Line}
-use Rattle.nm_script.specs.declared.script.Why.{Why}
 use Rattle.nm_script.specs.declared.script.Why.TheVariants as why
 use Rattle.nm_script.specs.declared.draft.Draft.{Draft}
-use Rattle.nm_script.specs.declared.draft.Kind.{Kind}
-use Rattle.nm_script.specs.declared.draft.Kind.TheVariants as kind
-use Rattle.nm_script.specs.Words.{number_at, is_name}
-use Rattle.nm_script.specs.Grammar.{name_at, server_names, file_system_names, client_names, all_names, all_differ, version_words, lease_words, server_words, file_system_words, client_words, run_words, IsName, IsRun}
-use Rattle.nm_script.specs.Reading.{◌>>=◌, kind_of, first_kind, may_follow, has_empty_word, is_new_name, is_server, is_file_system, is_client, server_number, nothing_yet, version_at, lease_at, with_server, server_at, with_file_system, file_system_at, with_client, client_at, run_line, run_at, kind_at, words_at, is_client_kind, is_past_clients}
-use Rattle.nm_script.proofs.WordLaws.{or_false, and_true, not_true, chosen, same_word, word_itself, name_found, name_again, number_found, number_again}
-use Rattle.nm_script.proofs.RunLaws.{bind_ok, ok_is, guard_ok, place_found, place_again, run_found}
+use Rattle.nm_script.specs.declared.order.Kind.{Kind}
+use Rattle.nm_script.specs.declared.order.Kind.TheVariants as kind
+use Rattle.nm_script.specs.Words.{has_empty_word, number_at, is_name}
+use Rattle.nm_script.specs.Grammar.{server_names, file_system_names, client_names, all_names, all_differ, version_words, lease_words, server_words, file_system_words, client_words, run_words, IsName, IsRun}
+use Rattle.nm_script.specs.Reading.{kind_of, first_kind, may_follow, is_new_name, is_server, is_file_system, is_client, server_number, version_at, lease_at, with_server, server_at, with_file_system, file_system_at, with_client, client_at, run_line, run_at, kind_at, words_at, is_client_kind, is_past_clients}
+use Rattle.nm_script.proofs.WordLaws.{or_false, and_true, not_true, chosen, same_word, name_found, name_again, number_found}
+use Rattle.nm_script.proofs.RunLaws.{bind_ok, ok_is, guard_ok, place_found, run_found}
 
 -- ---- the order of lines
 

@@ -1,9 +1,9 @@
 -- Lines that are run, and the places that names have: what is read is what was spelled.
-use Rattle.std.proofs.Common.{◌≡◌, ℕ, zero, suc, ◌<◌, ◌≤◌, Bool, true, false, cond, not, ltb, List, [], ◌∷◌, ◌++◌, length, get_or, map, Option, Some, None, Result, Ok, Err, refl, sym, ap, subst, ◌∙◌, arith, ◌⊎◌, inl, inr}
-use Rattle.std.specs.Prelude.{◌||◌, ◌&&◌, codes, position}
+use Rattle.std.proofs.Common.{◌≡◌, ℕ, zero, suc, ◌<◌, ◌≤◌, Bool, true, false, cond, not, ltb, List, [], ◌∷◌, length, get_or, map, Option, Some, None, Result, Ok, Err, refl, sym, ap, subst, ◌∙◌, arith, inl, inr}
+use Rattle.std.specs.Prelude.{◌&&◌, codes, position}
 use Rattle.std.specs.List.{list_any, position_or_len, AllByRecursion}
 use Rattle.std.specs.Str.{bytes_eq}
-use Rattle.std.proofs.lemmas.Bool.{ltb-true, lt-ltb}
+use Rattle.std.proofs.lemmas.Bool.{lt-ltb}
 use Rattle.std.proofs.lemmas.List.{get_or-map, length-map}
 use Rattle.std.proofs.lemmas.List.Sums.{position_or_len_is}
 use Rattle.std.proofs.lemmas.List.Quantifiers.{position-Some}
@@ -17,8 +17,8 @@ use Rattle.nm_script.specs.declared.script.Line.TheVariants.{Do, Show}
 use Rattle.nm_script.specs.declared.script.Why.{Why}
 use Rattle.nm_script.specs.declared.script.Why.TheVariants as why
 use Rattle.nm_script.specs.Words.{is_name, is_file_name, access_at, deny_at}
-use Rattle.nm_script.specs.Grammar.{name_at, server_names, file_system_names, client_names, access_word, deny_word, open_words, close_words, action_words, run_words, all_differ, all_names, IsHead, IsOpen, IsClose, IsAction, IsRun}
-use Rattle.nm_script.specs.Reading.{◌>>=◌, place_below, server_number, file_system_number, client_number, open_action, close_action, action_at, do_at, show_of, show_at, run_line}
+use Rattle.nm_script.specs.Grammar.{name_at, file_system_names, client_names, access_word, deny_word, open_words, close_words, action_words, run_words, all_differ, IsOpen, IsClose, IsAction, IsRun}
+use Rattle.nm_script.specs.Reading.{◌>>=◌, place_below, file_system_number, client_number, open_action, close_action, action_at, do_at, show_of, show_at, run_line}
 use Rattle.nm_script.proofs.WordLaws.{or_false, and_true, not_true, chosen, same_word, word_itself, has_space, IsWord, name_found, name_again, name_is_word, file_name_found, file_name_again, file_name_is_word, access_found, access_again, access_is_word, deny_found, deny_again, deny_is_word}
 
 -- the value of a step that did not fail
@@ -112,25 +112,31 @@ client_is_word head k names lt = word_in (client_names head) k names.client_word
 
 -- ---- actions
 
-open_found : (head : Head) (f file acc den owner : List ℕ) (a : OpenAction) → open_action head f file acc den owner ≡ Ok a → (f ∷ file ∷ acc ∷ den ∷ owner ∷ [] ≡ open_words head a) × IsOpen head a
+-- an open of those words
+abbrev opened : List ℕ → List ℕ → ℕ → ℕ → ℕ → OpenAction
+opened file owner access deny fs = record { fs = fs; file = file; access = access; deny = deny; owner = owner }
+
+-- its words, and what is in its form
+module _ (head : Head) (f file access_text deny_text owner : List ℕ) (access deny fs : ℕ) where
+  opened_is : (fs < length head.file_systems) × (f ≡ name_at (file_system_names head) fs) → (access_text ≡ access_word access) × (1 ≤ access) × (access ≤ 3) → (deny_text ≡ deny_word deny) × (deny ≤ 3)
+      → is_file_name file ≡ true → is_name owner ≡ true → (a : OpenAction) → opened file owner access deny fs ≡ a → (f ∷ file ∷ access_text ∷ deny_text ∷ owner ∷ [] ≡ open_words head a) × IsOpen head a
+  opened_is at access_is deny_is file_is owner_is a made =
+      let P : OpenAction → Type 0 = λ o. (f ∷ file ∷ access_text ∷ deny_text ∷ owner ∷ [] ≡ open_words head o) × IsOpen head o in
+      subst P made (
+        rw (at.1, access_is.0, deny_is.0) refl,
+        record { fs = at.0; file = file_name_found file file_is; access_some = access_is.1; access_limit = access_is.2; deny_limit = deny_is.1; owner = name_found owner owner_is },
+      )
+
+open_found : (head : Head) (f file access_text deny_text owner : List ℕ) (a : OpenAction) → open_action head f file access_text deny_text owner ≡ Ok a → (f ∷ file ∷ access_text ∷ deny_text ∷ owner ∷ [] ≡ open_words head a) × IsOpen head a
 unfolding open_action
-open_found head f file acc den owner a e =
-    let made : ℕ → ℕ → ℕ → OpenAction = λ access deny fs. record { fs = fs; file = file; access = access; deny = deny; owner = owner } in
-    let last : ℕ → ℕ → ℕ → Result OpenAction Why = λ access deny fs. cond (is_file_name file && is_name owner) (Ok (made access deny fs)) (Err why.Name) in
-    let x = bind_ok (access_at acc) (λ access. deny_at den >>= λ deny. file_system_number head f >>= λ fs. last access deny fs) a e in
-    let y = bind_ok (deny_at den) (λ deny. file_system_number head f >>= λ fs. last x.0 deny fs) a x.2 in
+open_found head f file access_text deny_text owner a e =
+    let last : ℕ → ℕ → ℕ → Result OpenAction Why = λ access deny fs. cond (is_file_name file && is_name owner) (Ok (opened file owner access deny fs)) (Err why.Name) in
+    let x = bind_ok (access_at access_text) (λ access. deny_at deny_text >>= λ deny. file_system_number head f >>= λ fs. last access deny fs) a e in
+    let y = bind_ok (deny_at deny_text) (λ deny. file_system_number head f >>= λ fs. last x.0 deny fs) a x.2 in
     let z = bind_ok (file_system_number head f) (λ fs. last x.0 y.0 fs) a y.2 in
-    let g = guard_ok (is_file_name file && is_name owner) why.Name (made x.0 y.0 z.0) a z.2 in
+    let g = guard_ok (is_file_name file && is_name owner) why.Name (opened file owner x.0 y.0 z.0) a z.2 in
     let n = and_true (is_file_name file) (is_name owner) g.0 in
-    let access = access_found acc x.0 x.1 in
-    let deny = deny_found den y.0 y.1 in
-    let at = file_system_found head f z.0 z.1 in
-    let same : f ∷ file ∷ acc ∷ den ∷ owner ∷ [] ≡ open_words head (made x.0 y.0 z.0) =
-    ap (λ (w : List ℕ). w ∷ file ∷ acc ∷ den ∷ owner ∷ []) at.1
-    ∙ ap (λ (w : List ℕ). name_at (file_system_names head) z.0 ∷ file ∷ w ∷ den ∷ owner ∷ []) access.0
-    ∙ ap (λ (w : List ℕ). name_at (file_system_names head) z.0 ∷ file ∷ access_word x.0 ∷ w ∷ owner ∷ []) deny.0 in
-    subst (λ (o : OpenAction). (f ∷ file ∷ acc ∷ den ∷ owner ∷ [] ≡ open_words head o) × IsOpen head o) g.1
-    (same, record { fs = at.0; file = file_name_found file n.0; access_some = access.1; access_limit = access.2; deny_limit = deny.1; owner = name_found owner n.1 })
+    opened_is head f file access_text deny_text owner x.0 y.0 z.0 (file_system_found head f z.0 z.1) (access_found access_text x.0 x.1) (deny_found deny_text y.0 y.1) n.0 n.1 a g.1
 
 open_again : (head : Head) (a : OpenAction) → HasNames head → IsOpen head a → open_action head (name_at (file_system_names head) a.fs) a.file (access_word a.access) (deny_word a.deny) a.owner ≡ Ok a
 unfolding open_action
@@ -166,27 +172,27 @@ action_found head verb (f ∷ file ∷ owner ∷ []) a e =
           (ap (λ (w : List ℕ). w ∷ f ∷ file ∷ owner ∷ []) verb_is ∙ ap (λ (ws : List (List ℕ)). codes "close" ∷ ws) p.0, p.1)
       | inr h ↦ absurd cc
     ]
-action_found head verb (f ∷ file ∷ acc ∷ den ∷ []) a e = absurd cc
-action_found head verb (f ∷ file ∷ acc ∷ den ∷ owner ∷ []) a e =
-    let words : List (List ℕ) = f ∷ file ∷ acc ∷ den ∷ owner ∷ [] in
+action_found head verb (f ∷ file ∷ access_text ∷ deny_text ∷ []) a e = absurd cc
+action_found head verb (f ∷ file ∷ access_text ∷ deny_text ∷ owner ∷ []) a e =
+    let words : List (List ℕ) = f ∷ file ∷ access_text ∷ deny_text ∷ owner ∷ [] in
     let P : Action → Type 0 = λ o. (verb ∷ words ≡ action_words head o) × IsAction head o in
-    let opens = open_action head f file acc den owner in
+    let opens = open_action head f file access_text deny_text owner in
     elim (chosen (bytes_eq verb (codes "open")) (opens >>= λ o. Ok (Open o)) _ (Ok a) e) [
       | inl h ↦
           let x = bind_ok opens (λ o. done (Open o)) a h.1 in
-          let p = open_found head f file acc den owner x.0 x.1 in
+          let p = open_found head f file access_text deny_text owner x.0 x.1 in
           let verb_is : verb ≡ codes "open" = same_word verb (codes "open") h.0 in
           subst P (ok_is (Open x.0) a x.2) (ap (λ (w : List ℕ). w ∷ words) verb_is ∙ ap (λ (ws : List (List ℕ)). codes "open" ∷ ws) p.0, p.1)
       | inr g ↦ elim (chosen (bytes_eq verb (codes "create")) (opens >>= λ o. Ok (Create o)) (Err why.Word) (Ok a) g.1) [
         | inl h ↦
             let x = bind_ok opens (λ o. done (Create o)) a h.1 in
-            let p = open_found head f file acc den owner x.0 x.1 in
+            let p = open_found head f file access_text deny_text owner x.0 x.1 in
             let verb_is : verb ≡ codes "create" = same_word verb (codes "create") h.0 in
             subst P (ok_is (Create x.0) a x.2) (ap (λ (w : List ℕ). w ∷ words) verb_is ∙ ap (λ (ws : List (List ℕ)). codes "create" ∷ ws) p.0, p.1)
         | inr h ↦ absurd cc
       ]
     ]
-action_found head verb (f ∷ file ∷ acc ∷ den ∷ owner ∷ more ∷ words) a e = absurd cc
+action_found head verb (f ∷ file ∷ access_text ∷ deny_text ∷ owner ∷ more ∷ words) a e = absurd cc
 
 -- ---- lines
 

@@ -1,9 +1,8 @@
 -- The two laws on scripts: what is read is spelled so, and what is spelled so is read.
-use Rattle.std.proofs.Common.{◌≡◌, ℕ, zero, suc, ◌+◌, ◌<◌, ◌≤◌, ◌^◌, Bool, true, false, cond, not, eqb, ltb, leb, List, [], ◌∷◌, ◌++◌, length, get_or, take, map, filter, Option, Some, None, Result, Ok, Err, refl, sym, ap, subst, ◌∙◌, append_assoc, arith, zero-add, ◌⊎◌, inl, inr, All}
-use Rattle.std.specs.Prelude.{◌||◌, ◌&&◌, codes, IfOk}
-use Rattle.std.specs.List.{list_any, AllByRecursion, slice_split, onto_first, join_with_byte}
-use Rattle.std.specs.Str.{bytes_eq}
-use Rattle.std.proofs.lemmas.Bool.{cases_lt, eqb-false, leb-true, le-leb, ltb-true, ltb-false, lt-ltb, le-ltb, eqb-true}
+use Rattle.std.proofs.Common.{◌≡◌, ℕ, suc, ◌+◌, ◌<◌, ◌≤◌, ◌^◌, Bool, true, false, cond, not, eqb, ltb, List, [], ◌∷◌, ◌++◌, length, take, map, filter, Option, Some, None, Result, Ok, Err, refl, sym, ap, subst, ◌∙◌, append_assoc, arith, zero-add, ◌⊎◌, inl, inr, All}
+use Rattle.std.specs.Prelude.{codes, IfOk}
+use Rattle.std.specs.List.{AllByRecursion, slice_split, onto_first}
+use Rattle.std.proofs.lemmas.Bool.{cases_lt, eqb-false, ltb-false, le-ltb, eqb-true}
 use Rattle.std.proofs.lemmas.List.{append-nil, length-append, length-map, map-append}
 use Rattle.std.proofs.lemmas.List.Elements.{All-nil, All-cons, recursion_from_All}
 use Rattle.std.proofs.lemmas.List.Splits.{join_with_byte-slice_split}
@@ -19,16 +18,14 @@ use Rattle.nm_script.specs.declared.script.ScriptFault.TheVariants as faults
 use Rattle.nm_script.specs.declared.script.Why.{Why}
 use Rattle.nm_script.specs.declared.script.Why.TheVariants as why
 use Rattle.nm_script.specs.declared.draft.Draft.{Draft}
-use Rattle.nm_script.specs.declared.draft.Kind.{Kind}
-use Rattle.nm_script.specs.declared.draft.Kind.TheVariants as kind
 use Rattle.nm_script.specs.Words.{words_of, says_something, is_printable}
-use Rattle.nm_script.specs.Grammar.{IsLines, line_of, script_words, run_words, version_words, lease_words, server_words, file_system_words, client_words, name_at, server_names, file_system_names, client_names, all_names, IsName, IsHead, IsRun, IsWellFormed, IsSourceLine, IsScript}
-use Rattle.nm_script.specs.Reading.{◌>>=◌, Tells, IsFault, kind_of, first_kind, is_client_kind, words_at, is_past_clients, line_at, nothing_yet, finished, lines_of, ended, in_line, counted_at, lines_at, or_no_head, whole_at, cut_at, script_at}
-use Rattle.nm_script.proofs.WordLaws.{or_false, and_true, not_true, chosen, IsWord, words_of_line, decimal_is_word, name_is_word}
+use Rattle.nm_script.specs.Grammar.{line_of, script_words, run_words, version_words, lease_words, server_words, file_system_words, client_words, name_at, server_names, file_system_names, client_names, all_names, IsName, IsRun, IsWellFormed, IsSourceLine, IsScript}
+use Rattle.nm_script.specs.Reading.{Tells, kind_of, first_kind, is_client_kind, words_at, is_past_clients, line_at, nothing_yet, finished, lines_of, ended, in_line, counted_at, lines_at, or_no_head, whole_at, cut_at, script_at}
+use Rattle.nm_script.proofs.WordLaws.{chosen, IsWord, words_of_line, decimal_is_word, name_is_word}
 use Rattle.nm_script.proofs.RunLaws.{bind_ok, ok_is, HasNames, run_are_words, keyword, word_in}
 use Rattle.nm_script.proofs.SourceLaws.{lines_are, lines_only}
 use Rattle.nm_script.proofs.AgainLaws.{take_words, take_all, all_again, other_kind, each_front, each_back, names_are_words, has_names}
-use Rattle.nm_script.proofs.DraftLaws.{rank, front, front_full, said, body, IsDraft, Adds, words_found, not_false}
+use Rattle.nm_script.proofs.DraftLaws.{rank, front_full, said, body, IsDraft, Adds, words_found, not_false}
 
 -- ---- what is read is spelled so
 
@@ -398,3 +395,6 @@ few bytes (Err fault) h = tt
 
 pub only : (bytes : List ℕ) (result : Result Script ScriptFault) → Tells result (script_at bytes) → (s : Script) → IsScript bytes s → Tells result (Ok s)
 only bytes result h s is = subst (Tells result) (script_again bytes s is) h
+
+pub one : (bytes : List ℕ) (s t : Script) → IsScript bytes s → IsScript bytes t → s ≡ t
+one bytes s t is are = same_read s t (sym (script_again bytes s is) ∙ script_again bytes t are)

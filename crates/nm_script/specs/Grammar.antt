@@ -1,5 +1,6 @@
--- The grammar of scripts: which bytes spell which script.
-use Rattle.std.specs.Prelude.{◌≡◌, ℕ, ◌^◌, ◌<◌, ◌≤◌, Bool, true, false, not, ◌&&◌, ◌||◌, ◌==◌, List, [], ◌∷◌, ◌++◌, length, map, filter, All, slice_index_or, if◌then◌else◌, codes, IsTrue}
+-- The grammar of scripts: which bytes spell which script. It stands apart from the reader, and goes from a script to
+-- its text: `IsScript`, at the end, is the whole of it.
+use Rattle.std.specs.Prelude.{◌≡◌, ℕ, ◌^◌, ◌<◌, ◌≤◌, Bool, true, false, not, ◌&&◌, ◌||◌, ◌==◌, List, [], ◌∷◌, ◌++◌, length, map, filter, All, slice_index_or, if◌then◌else◌, codes}
 use Rattle.std.specs.List.{list_any, list_all, join_with_byte}
 use Rattle.std.specs.Str.{bytes_eq}
 use Rattle.std.specs.Fmt.{decimal}
@@ -18,15 +19,22 @@ use Rattle.nm_script.specs.Words.{says_something, is_printable, is_name_byte}
 
 -- ---- how bytes are lines
 
--- Each line ends at its line feed; the last line feed may be missing, where something stands before it.
+-- whether a line feed stands in the bytes
+abbrev pub has_feed : List ℕ → Bool
+has_feed bytes = list_any (λ b. b == 10) bytes
+
+-- The bytes are these lines, in order.
 pub data IsLines : List ℕ → List (List ℕ) → Type 0 where
+  -- no bytes are no lines
   no_line : IsLines [] []
-  last_line : {line : List ℕ} → 0 < length line → list_any (λ b. b == 10) line ≡ false → IsLines line (line ∷ [])
-  next_line : {line rest : List ℕ} {lines : List (List ℕ)} → list_any (λ b. b == 10) line ≡ false → IsLines rest lines → IsLines (line ++ 10 ∷ rest) (line ∷ lines)
+  -- the last line feed may be missing, where something stands before it
+  last_line : {line : List ℕ} → 0 < length line → has_feed line ≡ false → IsLines line (line ∷ [])
+  -- any other line ends at its line feed
+  next_line : {line rest : List ℕ} {lines : List (List ℕ)} → has_feed line ≡ false → IsLines rest lines → IsLines (line ++ 10 ∷ rest) (line ∷ lines)
 
--- ---- how a script is lines, each of them the words of it
+-- ---- how a script is spelled, by the words of its lines
 
--- a number stands for the name in that place
+-- a number is spelled by the name in its place
 abbrev pub name_at : List (List ℕ) → ℕ → List ℕ
 name_at names number = slice_index_or names number []
 
@@ -39,11 +47,11 @@ file_system_names head = map (λ row. row.name) head.file_systems
 abbrev pub client_names : Head → List (List ℕ)
 client_names head = map (λ row. row.name) head.clients
 
--- ACC
+-- ACC: r, w or rw, for 1, 2 and 3
 abbrev pub access_word : ℕ → List ℕ
 access_word access = if access == 1 then codes "r" else if access == 2 then codes "w" else codes "rw"
 
--- DENY
+-- DENY: none, r, w or rw, for 0 to 3
 abbrev pub deny_word : ℕ → List ℕ
 deny_word deny = if deny == 0 then codes "none" else access_word deny
 
@@ -86,7 +94,7 @@ file_system_words head row = codes "fs" ∷ row.name ∷ codes "at" ∷ name_at 
 abbrev pub client_words : ClientRow → List (List ℕ)
 client_words row = codes "client" ∷ row.name ∷ decimal row.verifier ∷ []
 
--- the head in its order, and then the lines that are run
+-- the head in this order, and then the lines that are run
 abbrev pub script_words : Script → List (List (List ℕ))
 script_words s =
     version_words ∷ lease_words s.head.lease ∷ map server_words s.head.servers
@@ -119,10 +127,11 @@ abbrev pub all_differ : List (List ℕ) → Bool
 all_differ [] = true
 all_differ (name ∷ names) = not (list_any (bytes_eq name) names) && all_differ names
 
--- servers, file systems and clients
+-- the names of servers, file systems and clients
 abbrev pub all_names : Head → List (List ℕ)
 all_names head = server_names head ++ file_system_names head ++ client_names head
 
+-- One server, at most one file system and at most 64 clients, whose names all differ. A lease has 1 to 3,600 seconds.
 pub record IsHead (head : Head) : Type 0 where
   pub lease_some : 1 ≤ head.lease
   pub lease_limit : head.lease ≤ 3600
@@ -134,6 +143,7 @@ pub record IsHead (head : Head) : Type 0 where
   pub at : All (λ row. row.at < length head.servers) head.file_systems
   pub verifiers : All (λ row. row.verifier < 2 ^ 64) head.clients
 
+-- the file system is one of the head, the file and the owner have their forms, ACC is one of 1 to 3 and DENY of 0 to 3
 pub record IsOpen (head : Head) (a : OpenAction) : Type 0 where
   pub fs : a.fs < length head.file_systems
   pub file : IsFileName a.file
@@ -142,6 +152,7 @@ pub record IsOpen (head : Head) (a : OpenAction) : Type 0 where
   pub deny_limit : a.deny ≤ 3
   pub owner : IsName a.owner
 
+-- the same without ACC and DENY
 pub record IsClose (head : Head) (a : CloseAction) : Type 0 where
   pub fs : a.fs < length head.file_systems
   pub file : IsFileName a.file
@@ -152,11 +163,12 @@ IsAction head (Open a) = IsOpen head a
 IsAction head (Create a) = IsOpen head a
 IsAction head (Close a) = IsClose head a
 
+-- the client and the file system are of the head
 abbrev pub IsRun : Head → Line → Type 0
 IsRun head (Do client action) = (client < length head.clients) × IsAction head action
 IsRun head (Show fs) = fs < length head.file_systems
 
--- each number is in its bounds and stands for something, and each name is in its form and given once
+-- Each number is in its bounds and stands for something, and each name is in its form and given once.
 pub record IsWellFormed (s : Script) : Type 0 where
   pub head : IsHead s.head
   pub lines : All (IsRun s.head) s.lines
@@ -168,7 +180,8 @@ pub record IsSourceLine (line : List ℕ) : Type 0 where
   pub short : length line ≤ 4096
   pub printable : is_printable line ≡ true
 
--- The bytes spell the script: of their lines those that say something are its lines, in order.
+-- The bytes spell the script: they are at most 16 MiB and at most 4,000 lines, of which those that say something are
+-- the lines of the script, in order. The others are empty or begin with #, and stand anywhere.
 pub record IsScript (bytes : List ℕ) (s : Script) : Type 0 where
   pub lines : List (List ℕ)
   pub split : IsLines bytes lines

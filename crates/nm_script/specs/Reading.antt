@@ -1,6 +1,6 @@
 -- Reading a script from its first line to its last: the first fault, or what the lines say.
-use Rattle.std.specs.Prelude.{◌≡◌, ℕ, zero, suc, ◌+◌, ◌-◌, ◌*◌, ◌^◌, Bool, true, false, not, ◌&&◌, ◌||◌, ◌==◌, nat_lt, nat_le, List, [], ◌∷◌, ◌++◌, length, take, Option, Some, None, Result, Ok, Err, if◌then◌else◌, codes, position}
-use Rattle.std.specs.List.{list_all, list_any, slice_split, onto_first, suffix_len}
+use Rattle.std.specs.Prelude.{◌≡◌, ℕ, ◌+◌, ◌^◌, Bool, true, false, not, ◌&&◌, ◌||◌, ◌==◌, nat_lt, nat_le, List, [], ◌∷◌, ◌++◌, length, take, Option, Some, None, Result, Ok, Err, if◌then◌else◌, codes, position}
+use Rattle.std.specs.List.{list_any, onto_first}
 use Rattle.std.specs.Str.{bytes_eq}
 use Rattle.nm_rules.specs.declared.action.Action.{Action}
 use Rattle.nm_rules.specs.declared.action.Action.TheVariants.{Open, Create, Close}
@@ -15,11 +15,11 @@ use Rattle.nm_script.specs.declared.script.ScriptFault.TheVariants as faults
 use Rattle.nm_script.specs.declared.script.Why.{Why}
 use Rattle.nm_script.specs.declared.script.Why.TheVariants as why
 use Rattle.nm_script.specs.declared.draft.Draft.{Draft}
-use Rattle.nm_script.specs.declared.draft.Kind.{Kind}
-use Rattle.nm_script.specs.declared.draft.Kind.TheVariants as kind
-use Rattle.nm_script.specs.declared.draft.LineFault.{LineFault}
-use Rattle.nm_script.specs.declared.draft.LineFault.TheVariants as line_faults
-use Rattle.nm_script.specs.Words.{words_of, is_printable, says_something, is_name, is_file_name, number_at, access_at, deny_at}
+use Rattle.nm_script.specs.declared.order.Kind.{Kind}
+use Rattle.nm_script.specs.declared.order.Kind.TheVariants as kind
+use Rattle.nm_script.specs.declared.fault.LineFault.{LineFault}
+use Rattle.nm_script.specs.declared.fault.LineFault.TheVariants as line_faults
+use Rattle.nm_script.specs.Words.{words_of, has_empty_word, is_printable, says_something, is_name, is_file_name, number_at, access_at, deny_at}
 
 infixl 10 ◌>>=◌
 abbrev pub ◌>>=◌ : {A B E : Type 0} → Result A E → (A → Result B E) → Result B E
@@ -71,12 +71,6 @@ may_follow (Some kind.Client) kind.Run = true
 may_follow (Some kind.Client) _ = false
 may_follow (Some kind.Run) kind.Run = true
 may_follow (Some kind.Run) _ = false
-
-abbrev pub is_empty : List ℕ → Bool
-is_empty word = length word == 0
-
-abbrev pub has_empty_word : List (List ℕ) → Bool
-has_empty_word words = list_any is_empty words
 
 -- ---- names
 

@@ -1,7 +1,7 @@
 -- The words of a line: where they stand, and the forms of names and numbers.
-use Rattle.std.specs.Prelude.{ℕ, ◌+◌, ◌-◌, ◌*◌, ◌^◌, Bool, true, false, not, ◌&&◌, ◌||◌, ◌==◌, nat_lt, nat_le, List, [], ◌∷◌, length, Option, Some, None, Result, Ok, Err, if◌then◌else◌, codes}
+use Rattle.std.specs.Prelude.{ℕ, ◌+◌, ◌-◌, ◌*◌, ◌^◌, Bool, false, not, ◌&&◌, ◌||◌, ◌==◌, nat_lt, nat_le, List, [], ◌∷◌, length, Option, Some, None, Result, Ok, Err, if◌then◌else◌, codes}
 use Rattle.std.specs.Char.{is_ascii_alphanumeric, is_ascii_digit}
-use Rattle.std.specs.List.{list_all, slice_split}
+use Rattle.std.specs.List.{list_all, list_any, slice_split}
 use Rattle.std.specs.Option.{option_and_then}
 use Rattle.std.specs.Str.{bytes_eq}
 use Rattle.nm_script.specs.declared.script.Why.{Why}
@@ -10,6 +10,9 @@ use Rattle.nm_script.specs.declared.script.Why.TheVariants.{Word, Number}
 -- the words of a line stand apart by one space
 unfoldable pub words_of : List ℕ → List (List ℕ)
 words_of line = slice_split (λ b. b == 32) line
+
+abbrev pub has_empty_word : List (List ℕ) → Bool
+has_empty_word words = list_any (λ word. length word == 0) words
 
 -- each byte is one from 0x20 to 0x7e
 abbrev pub is_printable : List ℕ → Bool

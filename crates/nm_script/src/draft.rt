@@ -3,143 +3,20 @@ ghost use Rattle.std.specs.Prelude.{◌≡◌, map};
 ghost use Rattle.nm_script.specs.Reading as spec;
 ghost use Rattle.nm_script.specs.Reading.{Gives};
 
-use crate::run::{run_line, server_number};
-use crate::words::{is_name, is_printable, is_word, number, says_something, words_of};
+use crate::fault::LineFault;
+use crate::names::{is_new_name, server_number};
+use crate::order::{Kind, first_kind, may_follow};
+use crate::run::run_line;
+use crate::words::{has_empty_word, is_printable, is_word, number, says_something, words_of};
 use crate::{ClientRow, FsRow, Head, Lines, Script, ServerRow, Why};
-use nm_rules::{Bytes, Items, Memory};
+use nm_rules::{Bytes, Items};
 use std::alloc::Global;
 
-/// What a line is, by its first word: one of the head, or one that is run.
-#[derive(Clone, Copy, Debug, PartialEq, Eq)]
-pub(crate) enum Kind {
-    Version,
-    Lease,
-    Server,
-    FileSystem,
-    Client,
-    Run,
-}
+/// How many bytes a line may have.
+const LINE_LENGTH_LIMIT: usize = 4096;
 
-/// Why a line isn't taken.
-#[derive(Clone, Copy, Debug, PartialEq, Eq)]
-pub(crate) enum LineFault {
-    /// It is bad.
-    Bad(Why),
-    /// An allocation failed.
-    Memory,
-}
-
-impl From<Why> for LineFault {
-    ghost use Rattle.nm_script.specs.declared.draft.LineFault.TheVariants.{Bad};
-
-    ghost from_gives = { λ why fault. fault ≡ Bad why };
-
-    fn from(why: Why) -> Self {
-        LineFault::Bad(why)
-    }
-}
-
-impl From<Memory> for LineFault {
-    ghost use Rattle.nm_script.specs.declared.draft.LineFault.TheVariants.{Memory as OutOfMemory};
-
-    ghost from_gives = { λ _ fault. fault ≡ OutOfMemory };
-
-    fn from(_: Memory) -> Self {
-        LineFault::Memory
-    }
-}
-
-/// What a line is that begins with this word.
-#[tactic(auto, unfolding(crate::specs::Reading::kind_of))]
-fn kind_of(word: &[u8]) -> Kind
-    ensures { result ≡ spec.kind_of word.now }
-{
-    if is_word(word, b"nfsmove") {
-        return Kind::Version;
-    }
-    if is_word(word, b"lease") {
-        return Kind::Lease;
-    }
-    if is_word(word, b"server") {
-        return Kind::Server;
-    }
-    if is_word(word, b"fs") {
-        return Kind::FileSystem;
-    }
-    if is_word(word, b"client") {
-        return Kind::Client;
-    }
-    Kind::Run
-}
-
-fn first_kind(words: &[&[u8]]) -> Kind
-    ensures { result ≡ spec.first_kind (map (λ word. word.now) words.now) }
-{
-    match words {
-        [] => Kind::Run,
-        [first, ..] => kind_of(first),
-    }
-}
-
-/// Whether a line of that kind may stand behind the last one: the head has its order, each of its lines comes at
-/// least once up to `server`, and lines that are run come last.
-#[tactic(auto, unfolding(crate::specs::Reading::may_follow))]
-fn may_follow(last: Option<Kind>, next: Kind) -> bool
-    ensures { result ≡ spec.may_follow last next }
-{
-    match last {
-        None => matches!(next, Kind::Version),
-        Some(Kind::Version) => matches!(next, Kind::Lease),
-        Some(Kind::Lease) => matches!(next, Kind::Server),
-        Some(Kind::Server) => !matches!(next, Kind::Version | Kind::Lease),
-        Some(Kind::FileSystem) => matches!(next, Kind::FileSystem | Kind::Client | Kind::Run),
-        Some(Kind::Client) => matches!(next, Kind::Client | Kind::Run),
-        Some(Kind::Run) => matches!(next, Kind::Run),
-    }
-}
-
-fn has_empty_word(words: &[&[u8]]) -> bool
-    ensures { result ≡ spec.has_empty_word (map (λ word. word.now) words.now) }
-{
-    for word in words {
-        if word.is_empty() {
-            return true;
-        }
-    }
-    false
-}
-
-fn is_server(head: &Head, name: &[u8]) -> bool
-    ensures { result ≡ spec.is_server head.now name.now }
-{
-    let rows = head.servers.items();
-    rows.iter().any(|row| is_word(row.name.items(), name))
-}
-
-fn is_file_system(head: &Head, name: &[u8]) -> bool
-    ensures { result ≡ spec.is_file_system head.now name.now }
-{
-    let rows = head.file_systems.items();
-    rows.iter().any(|row| is_word(row.name.items(), name))
-}
-
-fn is_client(head: &Head, name: &[u8]) -> bool
-    ensures { result ≡ spec.is_client head.now name.now }
-{
-    let rows = head.clients.items();
-    rows.iter().any(|row| is_word(row.name.items(), name))
-}
-
-/// Whether a word has the form of a name, and names nothing yet.
-#[tactic(auto, unfolding(crate::specs::Reading::is_new_name))]
-fn is_new_name(head: &Head, name: &[u8]) -> bool
-    ensures { result ≡ spec.is_new_name head.now name.now }
-{
-    if !is_name(name) {
-        return false;
-    }
-    !(is_server(head, name) || is_file_system(head, name) || is_client(head, name))
-}
+/// How many clients a script may have.
+const CLIENT_LIMIT: usize = 64;
 
 /// What the lines so far say.
 #[derive(Debug, Drop)]
@@ -167,6 +44,7 @@ impl Draft {
         }
     }
 
+    /// `nfsmove 1`.
     #[tactic(auto, unfolding(crate::specs::Reading::version_at))]
     fn version(mut self, words: &[&[u8]]) -> Result<Draft, LineFault>
         ensures { Gives result (spec.version_at self (map (λ word. word.now) words.now)) }
@@ -183,6 +61,7 @@ impl Draft {
         }
     }
 
+    /// `lease N`, from 1 to 3,600 seconds.
     #[tactic(auto, unfolding(crate::specs::Reading::lease_at))]
     fn lease(mut self, words: &[&[u8]]) -> Result<Draft, LineFault>
         ensures { Gives result (spec.lease_at self (map (λ word. word.now) words.now)) }
@@ -201,6 +80,7 @@ impl Draft {
         }
     }
 
+    /// `server NAME`, which comes once.
     #[tactic(auto, unfolding(crate::specs::Reading::with_server))]
     fn with_server(mut self, alloc: Global, name: &[u8]) -> Result<Draft, LineFault>
         ensures { Gives result (spec.with_server self name.now) }
@@ -227,6 +107,7 @@ impl Draft {
         }
     }
 
+    /// `fs NAME at SERVER`, which comes at most once.
     #[tactic(auto, unfolding(crate::specs::Reading::with_file_system))]
     fn with_file_system(
         mut self,
@@ -263,6 +144,7 @@ impl Draft {
         }
     }
 
+    /// `client NAME VERIFIER`.
     #[tactic(auto, unfolding(crate::specs::Reading::with_client))]
     fn with_client(
         mut self,
@@ -292,6 +174,7 @@ impl Draft {
         }
     }
 
+    /// `do C ACTION` or `show F`.
     #[tactic(auto, unfolding(crate::specs::Reading::run_at))]
     fn run(mut self, alloc: Global, words: &[&[u8]]) -> Result<Draft, LineFault>
         ensures { Gives result (spec.run_at self (map (λ word. word.now) words.now)) }
@@ -329,7 +212,7 @@ impl Draft {
     fn is_past_clients(&self, words: &[&[u8]]) -> bool
         ensures { result ≡ spec.is_past_clients self.now (map (λ word. word.now) words.now) }
     {
-        if self.head.clients.items().len() < 64 {
+        if self.head.clients.items().len() < CLIENT_LIMIT {
             return false;
         }
         let is_client = matches!(first_kind(words), Kind::Client);
@@ -341,7 +224,7 @@ impl Draft {
     pub(crate) fn take_line(self, alloc: Global, line: &[u8]) -> Result<Draft, LineFault>
         ensures { Gives result (spec.line_at self line.now) }
     {
-        if line.len() > 4096 {
+        if line.len() > LINE_LENGTH_LIMIT {
             return Err(LineFault::Bad(Why::Limit));
         }
         let words = words_of(alloc, line)?;

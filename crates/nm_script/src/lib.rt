@@ -2,7 +2,10 @@
 #![tactic(auto)]
 
 mod draft;
+mod fault;
 mod memory;
+mod names;
+mod order;
 mod outside;
 mod read;
 mod report;

@@ -4,7 +4,8 @@ ghost use Rattle.nm_script.specs.Grammar.{IsScript, IsWellFormed};
 ghost use Rattle.nm_script.specs.Reading as spec;
 ghost use Rattle.nm_script.specs.Reading.{Tells, IsFault};
 
-use crate::draft::{Draft, LineFault};
+use crate::draft::Draft;
+use crate::fault::LineFault;
 use crate::{Script, ScriptFault, Why};
 use std::alloc::Global;
 
@@ -119,6 +120,8 @@ pub fn read_script(alloc: Global, bytes: &[u8]) -> Result<Script, ScriptFault>
     ensures found { IfOk result (λ s. IsScript bytes.now s) }
     // Bytes that spell a script are read as that script and no other, unless memory runs out.
     ensures only { (s : Script) → IsScript bytes.now s → Tells result (Ok s) }
+    // No bytes spell two scripts.
+    ensures one { (s t : Script) → IsScript bytes.now s → IsScript bytes.now t → s ≡ t }
     // Which fault it is: the first bad line, and the first of its faults.
     ensures exact { Tells result (spec.script_at bytes.now) }
     // Its numbers are in their bounds and stand for something, and its names are in their form and given once.

@@ -1,80 +1,14 @@
 //! The lines that are run, with numbers for the names that the head gave.
-ghost use Rattle.std.specs.Prelude.{◌≡◌, ◌<◌, IfOk, map};
+ghost use Rattle.std.specs.Prelude.{◌≡◌, map};
 ghost use Rattle.nm_script.specs.Reading as spec;
 ghost use Rattle.nm_script.specs.Reading.{Gives};
 
-use crate::draft::LineFault;
+use crate::fault::LineFault;
+use crate::names::{client_number, file_system_number};
 use crate::words::{access, deny, is_file_name, is_name, is_word};
 use crate::{Head, Line, Why};
-use nm_rules::{Action, Bytes, CloseAction, FsNum, OpenAction, ServerNum};
+use nm_rules::{Action, Bytes, CloseAction, OpenAction};
 use std::alloc::Global;
-
-/// A place below a limit. A name without a place is unknown.
-#[tactic(auto, unfolding(crate::specs::Reading::place_below))]
-fn place_below(limit: u32, place: Option<usize>) -> Result<u32, Why>
-    ensures place { result ≡ spec.place_below limit place }
-    ensures below { IfOk result (λ n. n < limit) }
-{
-    match place {
-        None => Err(Why::Name),
-        Some(place) => {
-            if place >= limit as usize {
-                return Err(Why::Name);
-            }
-            Ok(place as u32)
-        }
-    }
-}
-
-fn server_place(head: &Head, name: &[u8]) -> Option<usize>
-    ensures { result ≡ spec.server_place head.now name.now }
-{
-    let rows = head.servers.items();
-    rows.iter().position(|row| is_word(row.name.items(), name))
-}
-
-fn file_system_place(head: &Head, name: &[u8]) -> Option<usize>
-    ensures { result ≡ spec.file_system_place head.now name.now }
-{
-    let rows = head.file_systems.items();
-    rows.iter().position(|row| is_word(row.name.items(), name))
-}
-
-fn client_place(head: &Head, name: &[u8]) -> Option<usize>
-    ensures { result ≡ spec.client_place head.now name.now }
-{
-    let rows = head.clients.items();
-    rows.iter().position(|row| is_word(row.name.items(), name))
-}
-
-/// The number of the server of that name.
-pub(crate) fn server_number(head: &Head, name: &[u8]) -> Result<ServerNum, Why>
-    ensures { result ≡ spec.server_number head.now name.now }
-{
-    let place = place_below(16, server_place(head, name))?;
-    match ServerNum::new(place) {
-        Some(number) => Ok(number),
-        None => Err(Why::Name),
-    }
-}
-
-/// The number of the file system of that name.
-fn file_system_number(head: &Head, name: &[u8]) -> Result<FsNum, Why>
-    ensures { result ≡ spec.file_system_number head.now name.now }
-{
-    let place = place_below(64, file_system_place(head, name))?;
-    match FsNum::new(place) {
-        Some(number) => Ok(number),
-        None => Err(Why::Name),
-    }
-}
-
-/// The number of the client of that name.
-fn client_number(head: &Head, name: &[u8]) -> Result<u32, Why>
-    ensures { result ≡ spec.client_number head.now name.now }
-{
-    place_below(64, client_place(head, name))
-}
 
 /// `F FILE ACC DENY OWNER`. The keywords are judged before the names.
 #[tactic(auto, unfolding(crate::specs::Reading::open_action))]

@@ -22,6 +22,18 @@ pub(crate) fn is_word(word: &[u8], keyword: &[u8]) -> bool
     word == keyword
 }
 
+/// Whether one of the words is empty.
+pub(crate) fn has_empty_word(words: &[&[u8]]) -> bool
+    ensures { result ≡ spec.has_empty_word (map (λ word. word.now) words.now) }
+{
+    for word in words {
+        if word.is_empty() {
+            return true;
+        }
+    }
+    false
+}
+
 /// Whether each byte may stand in a line.
 pub(crate) fn is_printable(line: &[u8]) -> bool
     ensures { result ≡ spec.is_printable line.now }

@@ -1,6 +1,6 @@
 use Rattle.std.proofs.Common.{◌≡◌, drop, map}
-use Rattle.nm_script.specs.Reading.{has_empty_word}
-use Rattle.nm_script.proofs.draft.has_empty_word.Given as goal
+use Rattle.nm_script.specs.Words.{has_empty_word}
+use Rattle.nm_script.proofs.words.has_empty_word.Given as goal
 
 -- none of the words so far is empty
 abbrev pub invariant-loop-word : goal.invariant-loop-word
