@@ -1,7 +1,7 @@
 -- The tables of every legal list are sound, and show what stands.
 use Rattle.std.proofs.Common.{◌≡◌, ℕ, ◌+◌, Bool, true, false, cond, List, [], ◌∷◌, Option, Some, None, refl, ap, sym, subst, ◌∙◌, arith}
-use Rattle.std.specs.Prelude.{is_none, not, nat_le, ◌==◌, ◌-◌, ◌%◌, filter}
-use Rattle.std.proofs.lemmas.Bool.{not-false}
+use Rattle.std.specs.Prelude.{is_none, not, nat_le, ◌==◌, ◌||◌, ◌-◌, ◌%◌, filter}
+use Rattle.std.proofs.lemmas.Bool.{not-false, true≢false}
 use Rattle.nm_rules.specs.Parties.{Party, same_party}
 use Rattle.nm_rules.specs.Files.{file_at}
 use Rattle.nm_rules.specs.Shares.{open_at, open_of, opened_row, is_opposed, put_open, opens_after, OpenWord}
@@ -10,7 +10,7 @@ use Rattle.nm_rules.specs.Past.{Past, Now, now, left, words, no_words, is_done, 
 use Rattle.nm_rules.specs.Seen.{Seen, seen, look, after, after_words}
 use Rattle.nm_rules.specs.Checks.{Stop, first, nothing_stops}
 use Rattle.nm_rules.specs.Checks.Stop.{Refuse, Repeat}
-use Rattle.nm_rules.specs.Opens.{stateid_of, open_checks, open_value, close_checks, close_checks_at, close_value, closed_stateid, open_named, row_to_open, file_to_open, lease_stop, refuse_if, finds_none, is_share, seqid_stop, given_seqid, is_own}
+use Rattle.nm_rules.specs.Opens.{stateid_of, open_checks, open_value, close_checks, close_checks_at, close_value, closed_stateid, open_named, row_to_open, file_to_open, lease_stop, refuse_if, finds_none, is_share, draws_past_end, makes_past_end, seqid_stop, given_seqid, is_own}
 use Rattle.nm_rules.specs.Answer.{answer_to, reply_by, reply_with, refused_value, ok_value, checks, IsLegal}
 use Rattle.nm_rules.specs.Sound.{IsSound, rises, all_apart}
 use Rattle.nm_rules.specs.declared.calls.Call.{Call}
@@ -26,7 +26,7 @@ use Rattle.nm_rules.specs.declared.calls.Event.TheVariants.{Asked, Ended}
 use Rattle.nm_rules.specs.declared.calls.Reply.{Reply}
 use Rattle.nm_rules.specs.declared.calls.ReplyValue.TheVariants.{Close as CloseReply}
 use Rattle.nm_rules.specs.declared.status.OpStatus.{OpStatus}
-use Rattle.nm_rules.specs.declared.status.OpStatus.TheVariants.{Nfs4Ok, Inval, NoEnt, ShareDenied, BadStateId, OldStateId}
+use Rattle.nm_rules.specs.declared.status.OpStatus.TheVariants.{Nfs4Ok, Inval, NoEnt, ShareDenied, Resource, BadStateId, OldStateId}
 use Rattle.nm_rules.specs.declared.rows.OpenRow.{OpenRow}
 use Rattle.nm_rules.proofs.OpenRows.{open_at-past, in-open_at, rises-filter, rises-put_new, rises-put_old}
 use Rattle.nm_rules.proofs.Apart.{all_apart-filter, all_apart-put, opened_suits, open_of-in, Suits}
@@ -81,42 +81,49 @@ opened_sound last rows owner file access deny rising apart free (Some old) found
     })
 
 -- what stops an OPEN, from its tests
-open_stop : Verdict → Bool → Bool → Bool → Option Stop
-open_stop verdict unshared unnamed opposed = first (record nothing_stops {
-  lease = lease_stop verdict;
-  arguments = refuse_if unshared Inval;
-  name = refuse_if unnamed NoEnt;
-  conflict = refuse_if opposed ShareDenied;
-})
+open_stop : Verdict → Bool → Bool → Bool → Bool → Option Stop
+open_stop verdict unshared unnamed opposed past = first (record nothing_stops {
+  lease = lease_stop verdict; arguments = refuse_if unshared Inval; name = refuse_if unnamed NoEnt; conflict = refuse_if opposed ShareDenied;
+  limit = refuse_if past Resource })
 
-open_never_repeats : (v : Verdict) (a b c : Bool) (kept : Reply) → open_stop v a b c ≡ Some (Repeat kept) → ⊥
+open_never_repeats : (v : Verdict) (a b c d : Bool) (kept : Reply) → open_stop v a b c d ≡ Some (Repeat kept) → ⊥
 unfolding open_stop
-open_never_repeats LeaseMoved a b c kept h = cc
-open_never_repeats Pass true b c kept h = cc
-open_never_repeats Pass false true c kept h = cc
-open_never_repeats Pass false false true kept h = cc
-open_never_repeats Pass false false false kept h = cc
+open_never_repeats LeaseMoved a b c d kept h = cc
+open_never_repeats Pass true b c d kept h = cc
+open_never_repeats Pass false true c d kept h = cc
+open_never_repeats Pass false false true d kept h = cc
+open_never_repeats Pass false false false true kept h = cc
+open_never_repeats Pass false false false false kept h = cc
 
-open_is_free : (v : Verdict) (a b c : Bool) → open_stop v a b c ≡ None → (a ≡ false) × (b ≡ false) × (c ≡ false)
+open_is_free : (v : Verdict) (a b c d : Bool) → open_stop v a b c d ≡ None → (a ≡ false) × (b ≡ false) × (c ≡ false) × (d ≡ false)
 unfolding open_stop
-open_is_free LeaseMoved a b c h = cc
-open_is_free Pass true b c h = cc
-open_is_free Pass false true c h = cc
-open_is_free Pass false false true h = cc
-open_is_free Pass false false false h = (refl, refl, refl)
+open_is_free LeaseMoved a b c d h = cc
+open_is_free Pass true b c d h = cc
+open_is_free Pass false true c d h = cc
+open_is_free Pass false false true d h = cc
+open_is_free Pass false false false true h = cc
+open_is_free Pass false false false false h = (refl, refl, refl, refl)
 
--- An OPEN that nothing stops asks for a share, finds its name or may make it, and no row opposes it.
+no_or : (a b : Bool) → (a || b) ≡ false → (a ≡ false) × (b ≡ false)
+no_or false b h = (refl, h)
+no_or true b h = absurd (true≢false h)
+
+-- An OPEN that nothing stops asks for a share, finds its name or may make it, no row opposes it, and there is room for
+-- what it makes.
 pub record GoesOpen (s : Seen) (party : Party) (args : OpenArgs) : Type 0 where
   pub share : is_share args.access args.deny ≡ true
   pub named : finds_none s args ≡ false
   pub free : is_opposed (opener party args) (file_to_open s args) args.access args.deny s.opens ≡ false
+  pub counter : draws_past_end s party args ≡ false
+  pub number : makes_past_end s args ≡ false
 
 pub open_goes : (s : Seen) (party : Party) (args : OpenArgs) (verdict : Verdict) → first (open_checks s (Some party) args verdict) ≡ None → GoesOpen s party args
 unfolding open_checks open_stop
 open_goes s party args verdict h =
     let tests = open_is_free verdict (not (is_share args.access args.deny)) (finds_none s args)
-    (is_opposed (opener party args) (file_to_open s args) args.access args.deny s.opens) h in
-    record { share = not-false (is_share args.access args.deny) tests.0; named = tests.1; free = tests.2 }
+            (is_opposed (opener party args) (file_to_open s args) args.access args.deny s.opens) (draws_past_end s party args || makes_past_end s args) h in
+    let room = no_or (draws_past_end s party args) (makes_past_end s args) tests.3 in
+    record { share = not-false (is_share args.access args.deny) tests.0; named = tests.1; free = tests.2; counter = room.0; number = room.1 }
 
 -- what stops a CLOSE of an open, from its tests
 close_stop : Verdict → Bool → Option Stop → Option Stop
@@ -159,7 +166,7 @@ unfolding open_checks close_checks open_stop
 never_repeats s None file verdict (Open args) kept h = cc
 never_repeats s (Some party) file verdict (Open args) kept h =
     open_never_repeats verdict (not (is_share args.access args.deny)) (finds_none s args)
-    (is_opposed (opener party args) (file_to_open s args) args.access args.deny s.opens) kept h
+    (is_opposed (opener party args) (file_to_open s args) args.access args.deny s.opens) (draws_past_end s party args || makes_past_end s args) kept h
 never_repeats s caller file verdict (Close args) kept h =
     close_at_never_repeats caller file args verdict (open_named s args.stateid) kept h
 

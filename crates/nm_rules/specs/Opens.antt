@@ -1,5 +1,5 @@
 -- OPEN and CLOSE (RFC 7530, 16.16 and 16.2): when each is refused, and what its OK tells.
-use Rattle.std.specs.Prelude.{◌==◌, ◌&&◌, not, nat_le, ℕ, ◌+◌, ◌-◌, ◌%◌, Bool, true, false, Option, Some, None, unwrap_or, is_none, if◌then◌else◌}
+use Rattle.std.specs.Prelude.{◌==◌, ◌&&◌, ◌||◌, ◌^◌, not, nat_le, ℕ, ◌+◌, ◌-◌, ◌%◌, Bool, true, false, Option, Some, None, unwrap_or, is_none, if◌then◌else◌}
 use Rattle.nm_rules.specs.Parties.{Party, same_party}
 use Rattle.nm_rules.specs.Files.{file_at}
 use Rattle.nm_rules.specs.Shares.{next_seqid, open_at, open_of, opened_row, is_opposed}
@@ -19,7 +19,7 @@ use Rattle.nm_rules.specs.declared.calls.Verdict.{Verdict}
 use Rattle.nm_rules.specs.declared.calls.Verdict.TheVariants.{Pass, LeaseMoved}
 use Rattle.nm_rules.specs.declared.rows.OpenRow.{OpenRow}
 use Rattle.nm_rules.specs.declared.status.OpStatus.{OpStatus}
-use Rattle.nm_rules.specs.declared.status.OpStatus.TheVariants.{Inval, NoEnt, ShareDenied, OldStateId, BadStateId, StaleClientId, LeaseMoved as LeaseMovedStatus}
+use Rattle.nm_rules.specs.declared.status.OpStatus.TheVariants.{Inval, NoEnt, ShareDenied, Resource, OldStateId, BadStateId, StaleClientId, LeaseMoved as LeaseMovedStatus}
 
 -- refused with that status where the test holds
 abbrev pub refuse_if : Bool → OpStatus → Option Stop
@@ -45,6 +45,13 @@ finds_none s args = is_to_be_there args.how && is_none (file_at (claimed_name ar
 abbrev pub is_share : ℕ → ℕ → Bool
 is_share access deny = nat_le 1 access && nat_le access 3 && nat_le deny 3
 
+-- No stateid and no file is made past the last counter and the last number, 2^63.
+abbrev pub draws_past_end : Seen → Party → OpenArgs → Bool
+draws_past_end s party args = is_none (open_of (opener party args) (file_to_open s args) s.opens) && nat_le (2 ^ 63) s.last
+
+abbrev pub makes_past_end : Seen → OpenArgs → Bool
+makes_past_end s args = is_none (file_at (claimed_name args.claim) s.tree.table) && nat_le (2 ^ 63) s.tree.last_file
+
 unfoldable pub open_checks : Seen → Option Party → OpenArgs → Verdict → Checks
 open_checks s None args verdict = record nothing_stops { unresolved = Some (Refuse StaleClientId) }
 open_checks s (Some party) args verdict = record nothing_stops {
@@ -52,6 +59,7 @@ open_checks s (Some party) args verdict = record nothing_stops {
   arguments = refuse_if (not (is_share args.access args.deny)) Inval;
   name = refuse_if (finds_none s args) NoEnt;
   conflict = refuse_if (is_opposed (opener party args) (file_to_open s args) args.access args.deny s.opens) ShareDenied;
+  limit = refuse_if (draws_past_end s party args || makes_past_end s args) Resource;
 }
 
 -- the owner's open as the OPEN leaves it; a new one gets the next counter
