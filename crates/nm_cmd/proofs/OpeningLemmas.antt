@@ -1,12 +1,12 @@
 -- The tables after an answer are those that the code leaves.
-use Rattle.std.proofs.Common.{◌≡◌, ℕ, ◌+◌, Bool, true, false, cond, List, Option, Some, None, refl, ap, sym, ◌∙◌}
+use Rattle.std.proofs.Common.{◌≡◌, ℕ, ◌+◌, true, cond, List, Option, Some, None, refl, ap, sym, ◌∙◌}
 use Rattle.std.specs.Prelude.{is_none, unwrap_or, IsSome}
 use Rattle.nm_rules.specs.Parties.{Party}
 use Rattle.nm_rules.specs.Files.{TreeNow, file_at, tree_after}
-use Rattle.nm_rules.specs.Shares.{open_at, open_of, opened_row, put_open, opens_after}
-use Rattle.nm_rules.specs.Past.{words, no_words, is_done, claimed_name, opener, opened_words}
+use Rattle.nm_rules.specs.Shares.{open_of, put_open, opens_after}
+use Rattle.nm_rules.specs.Past.{words, no_words, is_done, claimed_name, opener}
 use Rattle.nm_rules.specs.Seen.{Seen, look, after, after_words}
-use Rattle.nm_rules.specs.Opens.{open_checks, close_checks, close_checks_at, open_value, close_value, closed_stateid, open_named, row_to_open, file_to_open}
+use Rattle.nm_rules.specs.Opens.{open_checks, close_checks, close_checks_at, open_value, close_value, open_named, row_to_open, file_to_open}
 use Rattle.nm_rules.specs.Answer.{answer_to, reply_by, reply_with, refused_value, checks}
 use Rattle.nm_rules.specs.Checks.{Stop, first}
 use Rattle.nm_rules.specs.Checks.Stop.{Refuse}
@@ -24,7 +24,7 @@ use Rattle.nm_rules.specs.declared.calls.ReplyValue.TheVariants.{Open as OpenRep
 use Rattle.nm_rules.specs.declared.status.OpStatus.{OpStatus}
 use Rattle.nm_rules.specs.declared.status.OpStatus.TheVariants.{Nfs4Ok}
 use Rattle.nm_rules.specs.declared.rows.OpenRow.{OpenRow}
-use Rattle.nm_rules.proofs.Legal.{put_row, same_row, drew_new, words-refused}
+use Rattle.nm_rules.proofs.Legal.{same_row, drew_new, words-refused}
 use Rattle.nm_shares.specs.Rows.{row_to_take, last_after}
 use Rattle.nm_cmd.specs.Opening.{made_at, with_file, after_taking, after_open, after_drop, Applied}
 

@@ -1,5 +1,5 @@
 -- A line draws one counter and makes one file at most.
-use Rattle.std.proofs.Common.{◌≡◌, ◌≤◌, ℕ, ◌+◌, Bool, true, false, cond, List, [], ◌∷◌, ◌++◌, drop, length, Option, Some, None, refl, ap, sym, ◌∙◌, arith}
+use Rattle.std.proofs.Common.{◌≤◌, ℕ, ◌+◌, Bool, true, false, cond, Option, Some, None, arith}
 use Rattle.std.specs.Prelude.{slice_get}
 use Rattle.nm_rules.specs.Files.{TreeNow, tree_after}
 use Rattle.nm_rules.specs.Past.{Words}
@@ -12,7 +12,7 @@ use Rattle.nm_script.specs.declared.script.Head.{Head}
 use Rattle.nm_script.specs.declared.script.Line.{Line}
 use Rattle.nm_script.specs.declared.script.Line.TheVariants.{Do, Show}
 use Rattle.nm_cmd.specs.ShortRun.{call_of}
-use Rattle.nm_cmd.specs.Tables.{TablesNow, Step, told_call, told_client, told_line}
+use Rattle.nm_cmd.specs.Tables.{TablesNow, told_call, told_client, told_line}
 
 pub record Grows (before after : TablesNow) : Type 0 where
   pub counters : after.tables.last ≤ before.tables.last + 1

@@ -1,5 +1,5 @@
 -- What an OPEN and a CLOSE that nothing stops leave of the tables.
-use Rattle.std.specs.Prelude.{◌≡◌, ℕ, ◌+◌, List, Option, Some, None, if◌then◌else◌}
+use Rattle.std.specs.Prelude.{◌≡◌, ℕ, ◌+◌, List, Option, Some, None}
 use Rattle.nm_rules.specs.Parties.{Party}
 use Rattle.nm_rules.specs.Files.{TreeNow, file_at, tree_after}
 use Rattle.nm_rules.specs.Shares.{put_open, opens_after}

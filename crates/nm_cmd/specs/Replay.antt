@@ -1,5 +1,5 @@
 -- What the program answers to its words and its input, and what it writes.
-use Rattle.std.specs.Prelude.{◌≡◌, ℕ, Bool, true, false, List, [], ◌∷◌, map, codes, Option, Result, Ok, Err, IfSome, IsTrue}
+use Rattle.std.specs.Prelude.{◌≡◌, ℕ, Bool, true, false, List, [], ◌∷◌, codes, Option, Result, Ok, Err, IfSome, IsTrue}
 use Rattle.std.specs.Str.{bytes_eq}
 use Rattle.nm_script.specs.declared.script.Script.{Script}
 use Rattle.nm_script.specs.declared.script.ScriptFault.{ScriptFault}

@@ -20,7 +20,6 @@ use Rattle.nm_rules.specs.declared.calls.OpenHow.TheVariants.{NoCreate, Unchecke
 use Rattle.nm_rules.specs.declared.calls.OpenClaim.TheVariants.{Null}
 use Rattle.nm_rules.specs.declared.calls.StateRef.TheVariants.{Named}
 use Rattle.nm_rules.specs.declared.calls.Verdict.TheVariants.{Pass}
-use Rattle.nm_rules.specs.declared.calls.Event.{Event}
 use Rattle.nm_rules.specs.declared.calls.Event.TheVariants.{Asked}
 use Rattle.nm_rules.specs.declared.calls.Reply.{Reply}
 use Rattle.nm_rules.specs.declared.calls.ReplyValue.{ReplyValue}

@@ -1,5 +1,5 @@
 -- Files by their names.
-use Rattle.std.specs.Prelude.{◌==◌, ℕ, ◌+◌, Bool, List, [], ◌∷◌, ◌++◌, Option, Some, None, find, option_map, unwrap_or, if◌then◌else◌}
+use Rattle.std.specs.Prelude.{◌==◌, ℕ, ◌+◌, Bool, List, [], ◌∷◌, ◌++◌, Option, Some, None, find, option_map, unwrap_or}
 use Rattle.std.specs.Str.{bytes_eq}
 use Rattle.nm_rules.specs.declared.rows.FileRow.{FileRow}
 

@@ -1,12 +1,11 @@
 -- What an OPEN leaves of the rows.
-use Rattle.std.proofs.Common.{◌≡◌, ◌≢◌, ◌<◌, ◌≤◌, ℕ, ◌+◌, Bool, true, false, cond, List, [], ◌∷◌, ◌++◌, Option, Some, None, refl, ap, sym, ◌∙◌, arith, eqb-true}
-use Rattle.std.specs.Prelude.{not, map, nat_lt, ◌==◌}
+use Rattle.std.proofs.Common.{◌≡◌, ◌<◌, ◌≤◌, ℕ, ◌+◌, Bool, true, false, cond, List, [], ◌∷◌, ◌++◌, Some, None, refl, ap, sym, ◌∙◌, arith, eqb-true}
+use Rattle.std.specs.Prelude.{map, nat_lt, ◌==◌}
 use Rattle.std.proofs.lemmas.Bool.Decides.{nat_tests}
 use Rattle.nm_rules.specs.Shares.{put_open, open_at, open_of, opened_row}
 use Rattle.nm_rules.specs.Sound.{rises}
 use Rattle.nm_rules.specs.declared.rows.OpenRow.{OpenRow}
 use Rattle.nm_rules.specs.declared.calls.Owner.{Owner}
-use Rattle.nm_shares.specs.declared.state.State.{State}
 use Rattle.nm_shares.specs.Rows.{row_to_take, last_after, state_of, joined_row, joined_at, Took}
 use Rattle.nm_rules.proofs.OpenRows.{and_parts, in-open_at, rises-le, rises-put_new, rises-put_old}
 use Rattle.nm_rules.proofs.Apart.{open_of-in}

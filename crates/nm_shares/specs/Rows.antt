@@ -1,8 +1,7 @@
 -- What `Shares` keeps, and what each call makes of it.
-use Rattle.std.specs.Prelude.{◌≡◌, ◌==◌, not, true, ℕ, ◌+◌, Bool, List, [], ◌∷◌, Option, Some, None, Result, Ok, Err, is_none, bit_or, if◌then◌else◌}
-use Rattle.nm_rules.specs.Owners.{same_owner}
+use Rattle.std.specs.Prelude.{◌≡◌, ◌==◌, true, ℕ, ◌+◌, Bool, List, [], Result, Ok, Err, is_none, bit_or, if◌then◌else◌}
 use Rattle.nm_rules.specs.Sound.{rises}
-use Rattle.nm_rules.specs.Shares.{next_seqid, open_of, open_at, opened_row, is_opposed, put_open, opens_after}
+use Rattle.nm_rules.specs.Shares.{next_seqid, open_of, opened_row, is_opposed, put_open, opens_after}
 use Rattle.nm_rules.specs.Shares.OpenWord.{Drop}
 use Rattle.nm_rules.specs.declared.calls.Owner.{Owner}
 use Rattle.nm_rules.specs.declared.rows.OpenRow.{OpenRow}

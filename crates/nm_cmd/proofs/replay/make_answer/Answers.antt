@@ -1,7 +1,5 @@
 use Rattle.std.proofs.Common.{◌≡◌, Ok, Err}
-use Rattle.nm_script.specs.declared.script.Script.{Script}
 use Rattle.nm_script.specs.declared.script.ScriptFault.TheVariants.{At}
-use Rattle.nm_script.specs.Grammar.{IsScript}
 use Rattle.nm_script.specs.Reading.{script_at}
 use Rattle.nm_cmd.proofs.ReplayLaws.{clients_are_short, refused_is}
 use Rattle.nm_cmd.proofs.replay.make_answer.Goals as goal

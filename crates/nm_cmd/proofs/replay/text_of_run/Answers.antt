@@ -1,5 +1,5 @@
-use Rattle.std.proofs.Common.{◌≡◌, ◌≤◌, ◌+◌, ◌++◌, ap, sym, ◌∙◌, arith, subst}
-use Rattle.nm_cmd.specs.Tables.{TablesNow, Step, told_line, no_tables, text_from}
+use Rattle.std.proofs.Common.{◌∙◌, arith, subst}
+use Rattle.nm_cmd.specs.Tables.{Step}
 use Rattle.nm_cmd.proofs.RoomLaws.{Grows, line_grows}
 use Rattle.nm_cmd.proofs.RunLaws.{text_next, text_done, text_of_script}
 use Rattle.nm_cmd.proofs.replay.text_of_run.Goals as goal

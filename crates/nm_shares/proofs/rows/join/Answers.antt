@@ -1,4 +1,3 @@
-use Rattle.std.proofs.Common.{◌≡◌, ◌<◌, length, arith}
 use Rattle.std.proofs.lemmas.List.Edits.{map_over_more}
 use Rattle.nm_shares.specs.Rows.{joined_at}
 use Rattle.nm_shares.proofs.rows.join.Goals as goal
