@@ -1,4 +1,2 @@
-pub mod OpeningLemmas
 pub mod ReplayLaws
-pub mod RoomLaws
 pub mod RunLaws

@@ -1,4 +1,3 @@
-pub mod Opening
 pub mod Replay
 pub mod ShortRun
 pub mod Tables

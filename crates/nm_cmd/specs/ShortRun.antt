@@ -1,8 +1,8 @@
 -- The run of a script without messages: each client's call reaches the unmoving server at once, and the reply the client.
-use Rattle.std.specs.Prelude.{ℕ, ◌==◌, ◌&&◌, not, Bool, false, List, [], ◌∷◌, ◌++◌, Option, Some, None, find, filter, map, option_map, unwrap_or, slice_get, codes, if◌then◌else◌}
+use Rattle.std.specs.Prelude.{ℕ, ◌==◌, ◌&&◌, not, Bool, false, List, [], ◌∷◌, ◌++◌, Option, Some, None, find, filter, option_map, unwrap_or, slice_get, codes, if◌then◌else◌}
 use Rattle.std.specs.Str.{bytes_eq}
 use Rattle.nm_rules.specs.Actions.{verb_of}
-use Rattle.nm_rules.specs.Files.{name_at}
+use Rattle.nm_rules.specs.Held.{held_table}
 use Rattle.nm_rules.specs.Parties.{Party}
 use Rattle.nm_rules.specs.Past.{Past}
 use Rattle.nm_rules.specs.Seen.{Seen, seen}
@@ -25,10 +25,6 @@ use Rattle.nm_rules.specs.declared.calls.Reply.{Reply}
 use Rattle.nm_rules.specs.declared.calls.ReplyValue.{ReplyValue}
 use Rattle.nm_rules.specs.declared.calls.ReplyValue.TheVariants.{Nothing, Open as OpenReply, Close as CloseReply}
 use Rattle.nm_rules.specs.declared.status.OpStatus.{OpStatus}
-use Rattle.nm_rules.specs.declared.rows.FileRow.{FileRow}
-use Rattle.nm_rules.specs.declared.rows.OpenRow.{OpenRow}
-use Rattle.nm_rules.specs.declared.table.HeldKind.TheVariants.{Open as OpenHeld}
-use Rattle.nm_rules.specs.declared.table.HeldRow.{HeldRow}
 use Rattle.nm_script.specs.declared.script.ClientRow.{ClientRow}
 use Rattle.nm_script.specs.declared.script.ServerRow.{ServerRow}
 use Rattle.nm_script.specs.declared.script.Head.{Head}
@@ -151,22 +147,6 @@ call_of client row known (Close a) =
     option_map (λ held. close_call client row held (seqid_of client a.owner known.seqids)) (held_of client a.owner a.file known.held)
 
 -- ---- what is shown
-
--- an open as it is shown, with its file's name
-unfoldable pub held_row : List FileRow → OpenRow → HeldRow
-held_row files row = record {
-  counter = row.counter;
-  seqid = row.seqid;
-  file = row.file;
-  name = name_at row.file files;
-  instance = row.owner.instance;
-  owner = row.owner.text;
-  row = OpenHeld row.access row.deny;
-}
-
--- the opens in the order of their counters, which is that of the table
-unfoldable pub held_table : Seen → List HeldRow
-held_table s = map (held_row s.tree.table) s.opens
 
 -- the server of a file system serves it
 unfoldable pub shown : Seen → FsRow → Option ServerRow → List ReportRow

@@ -1,5 +1,5 @@
 -- The same run over the tables: what the code keeps in the place of the entries.
-use Rattle.std.specs.Prelude.{ℕ, ◌<◌, ◌≤◌, ◌^◌, All, length, false, List, [], ◌∷◌, ◌++◌, Option, Some, None, slice_get}
+use Rattle.std.specs.Prelude.{ℕ, ◌≤◌, All, length, false, List, [], ◌∷◌, ◌++◌, Option, Some, None, slice_get}
 use Rattle.nm_rules.specs.Seen.{Seen, seen, empty, after}
 use Rattle.nm_rules.specs.Answer.{answer_to}
 use Rattle.nm_rules.specs.declared.action.Action.{Action}
@@ -53,11 +53,6 @@ tables_of r = record { tables = seen 0 false r.past; known = r.known }
 
 abbrev pub no_tables : TablesNow
 no_tables = record { tables = empty 0 false; known = knows_nothing }
-
--- A further line finds room for a counter and a file number.
-pub record HasRoom (t : TablesNow) : Type 0 where
-  pub counters : t.tables.last < 2 ^ 63
-  pub files : t.tables.tree.last_file < 2 ^ 63
 
 -- names as a script has them
 abbrev pub AreShort : List ClientRow → Type 0

@@ -3,14 +3,12 @@
 #![tactic(auto)]
 
 mod clients;
-mod file_system;
 mod replay;
 mod run;
 mod standard;
 mod status;
 #[cfg(test)]
 mod tests;
-mod tree;
 
 use nm_rules::Memory;
 pub use replay::{Answer, replay};

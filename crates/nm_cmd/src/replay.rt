@@ -29,11 +29,10 @@ fn first_fs() -> FsNum
 
 // The text of a script's run.
 fn text_of_run(alloc: Global, script: &Script) -> Result<Vec<u8>, Memory>
-    requires few { length script.now.lines ≤ 4000 }
-    requires names { AreShort script.now.head.clients }
+    requires { AreShort script.now.head.clients }
     ensures { IfOk result (λ text. text.items ≡ text_of (short_run script.now)) }
 {
-    let mut run = Run::new(alloc, first_fs());
+    let mut run = Run::new(alloc, first_fs())?;
     let mut text = Vec::new(alloc);
     for line in script.lines.items() {
         let report = run.line(&script.head, line)?;

@@ -1,27 +1,23 @@
 //! The run of a script's lines over the tables.
 ghost use Rattle.std.specs.Prelude.{◌≡◌, ◌<◌, ◌≤◌, ◌^◌, ◌++◌, [], ◌∷◌, All, length, map, IfOk, OnOk, slice_get, option_copied};
-ghost use Rattle.nm_rules.specs.Files.{name_at};
-ghost use Rattle.nm_cmd.specs.ShortRun.{held_row, held_table, shown, shown_of, shown_rows, outcome};
-ghost use Rattle.nm_cmd.specs.Tables.{no_tables, told_call, told_client, told_line, text_from, HasRoom, AreShort};
+ghost use Rattle.nm_cmd.specs.ShortRun.{shown, shown_of, shown_rows, outcome};
+ghost use Rattle.nm_cmd.specs.Tables.{no_tables, told_call, told_client, told_line, text_from, AreShort};
 
 use crate::clients::Clients;
-use crate::file_system::FileSystem;
-use nm_rules::{
-    Action, Bytes, Call, FileRow, FsNum, HeldKind, HeldRow, HeldTable, Items, Memory, OpStatus,
-    OpenRow, Verdict,
-};
+use nm_rules::{Action, Call, Event, FsNum, Items, Memory, Verdict};
 use nm_script::{
     ClientRow, FsRow, Head, HeldReport, Line, OutcomeRow, PhaseNow, Report, ReportRow, ServerRow,
     Told, append_line_text,
 };
+use nm_state::FsState;
 use std::alloc::Global;
 use std::marker::Model;
 
-/// The tables of the one file system, and what the clients know.
+/// The state of the one file system, and what the clients know.
 #[derive(Debug, Drop)]
 pub struct Run {
     alloc: Global,
-    tables: FileSystem,
+    state: FsState,
     clients: Clients,
 }
 
@@ -30,48 +26,7 @@ impl Model for Run {
 
     ghost Value = { TablesNow };
 
-    ghost view = { λ r. record { tables = r.tables; known = r.clients } };
-}
-
-// The name of a file.
-#[tactic(auto, unfolding(nm_rules::specs::Files::name_at))]
-fn name_of(alloc: Global, files: &[FileRow], number: u64) -> Result<Bytes, Memory>
-    ensures { IfOk result (λ name. name ≡ name_at number files.now) }
-{
-    match files.iter().find(|row| row.number == number) {
-        Some(row) => Ok(row.name.copy()?),
-        None => Ok(Bytes::new(alloc)),
-    }
-}
-
-// An open as it is shown.
-#[tactic(auto, unfolding(crate::specs::ShortRun::held_row))]
-fn show_open(alloc: Global, files: &[FileRow], row: &OpenRow) -> Result<HeldRow, Memory>
-    ensures { IfOk result (λ held. held ≡ held_row files.now row.now) }
-{
-    Ok(HeldRow {
-        counter: row.counter,
-        seqid: row.seqid,
-        file: row.file,
-        name: name_of(alloc, files, row.file)?,
-        instance: row.owner.instance,
-        owner: row.owner.text.copy()?,
-        row: HeldKind::Open {
-            access: row.access,
-            deny: row.deny,
-        },
-    })
-}
-
-// The opens as they are shown.
-fn show_opens(alloc: Global, files: &[FileRow], rows: &[OpenRow]) -> Result<HeldTable, Memory>
-    ensures { IfOk result (λ table. table ≡ map (held_row files.now) rows.now) }
-{
-    let mut table = Items::new(alloc);
-    for row in rows {
-        table.push(show_open(alloc, files, row)?)?;
-    }
-    Ok(table)
+    ghost view = { λ r. record { tables = r.state.seen; known = r.clients } };
 }
 
 // A report of one row.
@@ -93,20 +48,20 @@ fn outcome_of(alloc: Global, row: &ClientRow, action: &Action, told: Told) -> Re
 }
 
 impl Run {
-    /// Before the first line nothing is open and no client knows anything. It takes no memory.
-    pub fn new(alloc: Global, fs: FsNum) -> Run
+    /// Before the first line nothing is open and no client knows anything.
+    pub fn new(alloc: Global, fs: FsNum) -> Result<Run, Memory>
         requires { fs ≡ 0 }
-        ensures { result ≡ no_tables }
+        ensures { IfOk result (λ run. run ≡ no_tables) }
     {
-        Run {
+        Ok(Run {
             alloc,
-            tables: FileSystem::new(alloc, fs, false),
+            state: FsState::new(alloc, fs, false)?,
             clients: Clients::new(alloc),
-        }
+        })
     }
 
     // A file system with its server, as it is shown.
-    #[tactic(auto, unfolding(crate::specs::ShortRun::shown, crate::specs::ShortRun::held_table))]
+    #[tactic(auto, unfolding(crate::specs::ShortRun::shown))]
     fn show(&self, row: &FsRow, server: Option<&ServerRow>) -> Result<Report, Memory>
         ensures { IfOk result (λ rows. rows ≡ shown self.now.tables row.now (option_copied server.entry)) }
     {
@@ -116,7 +71,7 @@ impl Run {
         let held = HeldReport {
             file_system: row.name.copy()?,
             phase: PhaseNow::At(server.name.copy()?),
-            table: show_opens(self.alloc, self.tables.files(), self.tables.opens())?,
+            table: self.state.table()?,
         };
         Ok(single(self.alloc, ReportRow::Held(held))?)
     }
@@ -141,13 +96,12 @@ impl Run {
         action: &Action,
         call: Option<Call>,
     ) -> Result<Report, Memory>
-        requires { HasRoom self.old }
         ensures { IfOk result (λ rows. told_call self.old client row.now action.now call ≡ record { rows = rows; next = self.new }) }
     {
         let Some(call) = call else {
             return Ok(outcome_of(self.alloc, row, action, Told::NoState)?);
         };
-        let reply = self.tables.apply(&call, Verdict::Pass)?;
+        let reply = self.state.apply(&Event::Asked(call, Verdict::Pass))?;
         self.clients.learn(client, action, &reply)?;
         Ok(outcome_of(self.alloc, row, action, Told::Answered(reply.status))?)
     }
@@ -155,8 +109,7 @@ impl Run {
     // A line of a client.
     #[tactic(auto, unfolding(crate::specs::Tables::told_client))]
     fn act(&mut self, head: &Head, client: u32, action: &Action) -> Result<Report, Memory>
-        requires room { HasRoom self.old }
-        requires names { AreShort head.now.clients }
+        requires { AreShort head.now.clients }
         ensures { IfOk result (λ rows. told_client self.old client action.now (slice_get head.now.clients client) ≡ record { rows = rows; next = self.new }) }
     {
         match head.clients.items().get(client as usize) {
@@ -171,8 +124,7 @@ impl Run {
     /// Runs a line: what it prints. After want of memory nothing is promised of the run.
     #[tactic(auto, unfolding(crate::specs::Tables::told_line))]
     pub fn line(&mut self, head: &Head, line: &Line) -> Result<Report, Memory>
-        requires room { HasRoom self.old }
-        requires names { AreShort head.now.clients }
+        requires { AreShort head.now.clients }
         ensures { IfOk result (λ rows. told_line head.now self.old line.now ≡ record { rows = rows; next = self.new }) }
     {
         match line {

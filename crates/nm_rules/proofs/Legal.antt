@@ -10,7 +10,7 @@ use Rattle.nm_rules.specs.Past.{Past, Now, now, left, words, no_words, is_done, 
 use Rattle.nm_rules.specs.Seen.{Seen, seen, look, after, after_words}
 use Rattle.nm_rules.specs.Checks.{Stop, first, nothing_stops}
 use Rattle.nm_rules.specs.Checks.Stop.{Refuse, Repeat}
-use Rattle.nm_rules.specs.Opens.{stateid_of, open_checks, open_value, close_checks, close_checks_at, close_value, closed_stateid, open_named, row_to_open, file_to_open, lease_stop, refuse_if, finds_none, is_share, draws_past_end, makes_past_end, seqid_stop, given_seqid, is_own}
+use Rattle.nm_rules.specs.Opens.{stateid_of, open_checks, GoesOpen, open_value, close_checks, close_checks_at, close_value, closed_stateid, open_named, row_to_open, file_to_open, lease_stop, refuse_if, finds_none, is_share, draws_past_end, makes_past_end, seqid_stop, given_seqid, is_own}
 use Rattle.nm_rules.specs.Answer.{answer_to, reply_by, reply_with, refused_value, ok_value, checks, IsLegal}
 use Rattle.nm_rules.specs.Sound.{IsSound, rises, all_apart}
 use Rattle.nm_rules.specs.declared.calls.Call.{Call}
@@ -107,15 +107,6 @@ open_is_free Pass false false false false h = (refl, refl, refl, refl)
 no_or : (a b : Bool) → (a || b) ≡ false → (a ≡ false) × (b ≡ false)
 no_or false b h = (refl, h)
 no_or true b h = absurd (true≢false h)
-
--- An OPEN that nothing stops asks for a share, finds its name or may make it, no row opposes it, and there is room for
--- what it makes.
-pub record GoesOpen (s : Seen) (party : Party) (args : OpenArgs) : Type 0 where
-  pub share : is_share args.access args.deny ≡ true
-  pub named : finds_none s args ≡ false
-  pub free : is_opposed (opener party args) (file_to_open s args) args.access args.deny s.opens ≡ false
-  pub counter : draws_past_end s party args ≡ false
-  pub number : makes_past_end s args ≡ false
 
 pub open_goes : (s : Seen) (party : Party) (args : OpenArgs) (verdict : Verdict) → first (open_checks s (Some party) args verdict) ≡ None → GoesOpen s party args
 unfolding open_checks open_stop

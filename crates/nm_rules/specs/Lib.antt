@@ -2,6 +2,7 @@ pub mod Actions
 pub mod Answer
 pub mod Checks
 pub mod Files
+pub mod Held
 pub mod Opens
 pub mod Owners
 pub mod Parties

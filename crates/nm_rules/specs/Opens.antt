@@ -1,5 +1,5 @@
 -- OPEN and CLOSE (RFC 7530, 16.16 and 16.2): when each is refused, and what its OK tells.
-use Rattle.std.specs.Prelude.{◌==◌, ◌&&◌, ◌||◌, ◌^◌, not, nat_le, ℕ, ◌+◌, ◌-◌, ◌%◌, Bool, true, false, Option, Some, None, unwrap_or, is_none, if◌then◌else◌}
+use Rattle.std.specs.Prelude.{◌≡◌, ◌==◌, ◌&&◌, ◌||◌, ◌^◌, not, nat_le, ℕ, ◌+◌, ◌-◌, ◌%◌, Bool, true, false, Option, Some, None, unwrap_or, is_none, if◌then◌else◌}
 use Rattle.nm_rules.specs.Parties.{Party, same_party}
 use Rattle.nm_rules.specs.Files.{file_at}
 use Rattle.nm_rules.specs.Shares.{next_seqid, open_at, open_of, opened_row, is_opposed}
@@ -61,6 +61,15 @@ open_checks s (Some party) args verdict = record nothing_stops {
   conflict = refuse_if (is_opposed (opener party args) (file_to_open s args) args.access args.deny s.opens) ShareDenied;
   limit = refuse_if (draws_past_end s party args || makes_past_end s args) Resource;
 }
+
+-- An OPEN that nothing stops asks for a share, finds its name or may make it, no row opposes it, and there is room for
+-- what it makes.
+pub record GoesOpen (s : Seen) (party : Party) (args : OpenArgs) : Type 0 where
+  pub share : is_share args.access args.deny ≡ true
+  pub named : finds_none s args ≡ false
+  pub free : is_opposed (opener party args) (file_to_open s args) args.access args.deny s.opens ≡ false
+  pub counter : draws_past_end s party args ≡ false
+  pub number : makes_past_end s args ≡ false
 
 -- the owner's open as the OPEN leaves it; a new one gets the next counter
 unfoldable pub row_to_open : Seen → Party → OpenArgs → OpenRow

@@ -1,8 +1,9 @@
 -- What `Shares` keeps, and what each call makes of it.
 use Rattle.std.specs.Prelude.{◌≡◌, ◌==◌, true, ℕ, ◌+◌, Bool, List, [], Result, Ok, Err, is_none, bit_or, if◌then◌else◌}
 use Rattle.nm_rules.specs.Sound.{rises}
+use Rattle.nm_rules.specs.Parties.{Party}
 use Rattle.nm_rules.specs.Shares.{next_seqid, open_of, opened_row, is_opposed, put_open, opens_after}
-use Rattle.nm_rules.specs.Shares.OpenWord.{Drop}
+use Rattle.nm_rules.specs.Shares.OpenWord.{Drop, DropOf}
 use Rattle.nm_rules.specs.declared.calls.Owner.{Owner}
 use Rattle.nm_rules.specs.declared.rows.OpenRow.{OpenRow}
 use Rattle.nm_rules.specs.declared.memory.Refusal.{Refusal}
@@ -47,6 +48,9 @@ after_take s owner file access deny = record s {
 
 abbrev pub after_close : SharesNow → ℕ → SharesNow
 after_close s counter = record s { table = opens_after (Drop counter) s.table }
+
+abbrev pub after_end : SharesNow → Party → SharesNow
+after_end s party = record s { table = opens_after (DropOf party) s.table }
 
 -- the state that a CLOSE answers: its seqid goes on by one
 abbrev pub closed_state : OpenRow → State

@@ -1,14 +1,15 @@
 //! Work on a list of opens.
-ghost use Rattle.std.specs.Prelude.{◌≡◌, ◌<◌, ◌^◌, ℕ, true, IfOk, OnErr, map, filter, not, ◌==◌, option_copied};
+ghost use Rattle.std.specs.Prelude.{◌≡◌, ◌<◌, ◌^◌, ℕ, true, IfOk, OnErr, map, filter, not, ◌==◌, option_copied, is_none};
 ghost use Rattle.nm_shares.specs.Rows.{joined_at, Took};
 ghost use Rattle.nm_rules.specs.Sound.{rises};
-ghost use Rattle.nm_rules.specs.Shares.{next_seqid, is_opposed, open_at, open_of, shares_conflict};
+ghost use Rattle.nm_rules.specs.Shares.{next_seqid, is_opposed, open_at, open_of, shares_conflict, opens_after};
+ghost use Rattle.nm_rules.specs.Shares.OpenWord.{DropOf};
 
 use crate::State;
-use nm_rules::{Memory, OpenRow, Owner};
+use nm_rules::{Instance, Memory, OpenRow, Owner};
 use std::alloc::Global;
 
-/// The seqid that follows one of a stateid.
+/// The seqid that follows one of a stateid (RFC 7530, 9.1.4.2): after the greatest comes 1.
 pub fn seqid_after(n: u32) -> u32
     ensures { result ≡ next_seqid n }
 {
@@ -59,6 +60,15 @@ pub fn drop_at(rows: &mut Vec<OpenRow>, counter: u64)
     rows.retain(|row| row.counter != counter);
 }
 
+/// The opens without those of an instance.
+#[tactic(auto, unfolding(nm_rules::specs::Shares::opens_after))]
+pub fn drop_of(rows: &mut Vec<OpenRow>, instance: &Instance)
+    ensures rising { (last : ℕ) → rises 0 last rows.old.items ≡ true → rises 0 last rows.new.items ≡ true }
+    ensures dropped { rows.new.items ≡ opens_after (DropOf instance.now) rows.old.items }
+{
+    rows.retain(|row| !instance.is_same(&row.owner.instance));
+}
+
 // Joins a share to the row, where it has that counter. The seqid of its stateid then goes on by one.
 fn join_row(row: &mut OpenRow, counter: u64, access: u32, deny: u32)
     ensures { row.new ≡ joined_at counter access deny row.old }
@@ -88,7 +98,7 @@ pub fn take(
     access: u32,
     deny: u32,
 ) -> Result<(State, u64), Memory>
-    requires room { last < 2 ^ 63 }
+    requires room { is_none (open_of owner.now file rows.old.items) ≡ true → last < 2 ^ 63 }
     requires rising { rises 0 last rows.old.items ≡ true }
     ensures ok { IfOk result (λ took. Took last rows.old.items owner.now file access deny rows.new.items took.0 took.1) }
     ensures err { OnErr result (rows.new.items ≡ rows.old.items) }

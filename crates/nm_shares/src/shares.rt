@@ -1,13 +1,13 @@
 //! The opens of one file system.
-ghost use Rattle.std.specs.Prelude.{◌≡◌, ◌<◌, ◌^◌, ◌↔◌, ℕ, true, IsSome, IfSome, IfOk, OnOk, OnErr, option_copied};
-ghost use Rattle.nm_rules.specs.Shares.{open_at, is_opposed};
+ghost use Rattle.std.specs.Prelude.{◌≡◌, ◌<◌, ◌^◌, ◌↔◌, ℕ, true, IsSome, IfSome, IfOk, OnOk, OnErr, is_none, option_copied};
+ghost use Rattle.nm_rules.specs.Shares.{open_at, open_of, is_opposed};
 ghost use Rattle.nm_rules.specs.Opens.{is_share};
 ghost use Rattle.nm_rules.specs.Sound.{rises};
-ghost use Rattle.nm_shares.specs.Rows.{no_opens, Tells, take_answer, after_take, after_close, closed_state};
+ghost use Rattle.nm_shares.specs.Rows.{no_opens, Tells, take_answer, after_take, after_close, after_end, closed_state};
 
 use crate::State;
-use crate::rows::{copy_rows, drop_at, find_at, opposed, seqid_after, take};
-use nm_rules::{FsNum, Memory, OpStatus, OpenRow, Owner, Refusal};
+use crate::rows::{copy_rows, drop_at, drop_of, find_at, find_of, opposed, seqid_after, take};
+use nm_rules::{FsNum, Instance, Memory, OpStatus, OpenRow, Owner, Refusal};
 use std::alloc::Global;
 use std::marker::Model;
 
@@ -68,6 +68,13 @@ impl Shares {
         find_at(&self.rows, counter)
     }
 
+    /// The live open of that owner on that file. `None` exactly where there is none.
+    pub fn open_of(&self, owner: &Owner, file: u64) -> Option<&OpenRow>
+        ensures { option_copied result ≡ open_of owner.now file self.now.table }
+    {
+        find_of(&self.rows, owner, file)
+    }
+
     /// Whether another owner's open of the file conflicts with this share (RFC 7530, 9.9).
     pub fn is_opposed(&self, owner: &Owner, file: u64, access: u32, deny: u32) -> bool
         ensures { result ≡ is_opposed owner.now file access deny self.now.table }
@@ -76,7 +83,8 @@ impl Shares {
     }
 
     /// Opens a file for an owner, or joins what the owner has open there (RFC 7530, 16.16). `SHARE_DENIED` exactly
-    /// where another owner's open of the file conflicts. After an error nothing has changed.
+    /// where another owner's open of the file conflicts. After an error nothing has changed. A first open of the owner
+    /// there draws the next counter, so the last one must be below 2^63.
     #[tactic(auto, unfolding(crate::specs::Rows::take_answer, crate::specs::Rows::after_take))]
     pub fn take_open(
         &mut self,
@@ -85,7 +93,7 @@ impl Shares {
         access: u32,
         deny: u32,
     ) -> Result<State, Refusal>
-        requires room { self.old.last < 2 ^ 63 }
+        requires room { is_none (open_of owner.now file self.old.table) ≡ true → self.old.last < 2 ^ 63 }
         requires share { is_share access deny ≡ true }
 
         ensures rising { rises 0 self.old.last self.old.table ≡ true }
@@ -117,6 +125,13 @@ impl Shares {
         };
         drop_at(&mut self.rows, counter);
         state
+    }
+
+    /// Closes all opens of an instance, which has ended (RFC 7530, 9.6.3).
+    pub fn drop_client(&mut self, instance: &Instance)
+        ensures { self.new ≡ after_end self.old instance.now }
+    {
+        drop_of(&mut self.rows, instance);
     }
 
     /// The same opens once more.

@@ -3,7 +3,7 @@ use Rattle.std.specs.Prelude.{◌≡◌, ℕ, ◌+◌, List, Option, Some, None}
 use Rattle.nm_rules.specs.Parties.{Party}
 use Rattle.nm_rules.specs.Files.{TreeNow, file_at, tree_after}
 use Rattle.nm_rules.specs.Shares.{put_open, opens_after}
-use Rattle.nm_rules.specs.Shares.OpenWord.{Drop}
+use Rattle.nm_rules.specs.Shares.OpenWord.{Drop, DropOf}
 use Rattle.nm_rules.specs.Past.{claimed_name, opener}
 use Rattle.nm_rules.specs.Seen.{Seen, after}
 use Rattle.nm_rules.specs.Answer.{answer_to}
@@ -37,6 +37,9 @@ after_open s party args = record (after_taking s (opener party args) (file_to_op
 
 unfoldable pub after_drop : Seen → ℕ → Seen
 after_drop s counter = record s { opens = opens_after (Drop counter) s.opens }
+
+unfoldable pub after_end : Seen → Party → Seen
+after_end s party = record s { opens = opens_after (DropOf party) s.opens }
 
 -- The reply is the answer to the event, and the tables are those after it.
 pub record Applied (before : Seen) (event : Event) (reply : Reply) (new : Seen) : Type 0 where

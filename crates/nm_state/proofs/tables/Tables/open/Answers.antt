@@ -1,10 +1,10 @@
-use Rattle.std.proofs.Common.{None, Some, refl}
+use Rattle.std.proofs.Common.{None, Some, refl, sym}
 use Rattle.nm_rules.specs.Opens.{open_checks}
 use Rattle.nm_rules.specs.declared.calls.Call.{Call}
 use Rattle.nm_rules.specs.declared.calls.Deed.TheVariants.{Open}
 use Rattle.nm_rules.specs.declared.status.OpStatus.TheVariants.{StaleClientId}
-use Rattle.nm_cmd.proofs.OpeningLemmas.{applied_refused, applied_open}
-use Rattle.nm_cmd.proofs.file_system.FileSystem.open.Goals as goal
+use Rattle.nm_state.proofs.OpeningLemmas.{applied_refused, applied_open}
+use Rattle.nm_state.proofs.tables.Tables.open.Goals as goal
 
 pub returns-in_default : goal.returns-in_default
 unfolding open_checks
@@ -20,6 +20,6 @@ returns-in-Some-open_stop c =
 
 pub returns : goal.returns
 returns c =
-    rw (c.reply-2.ensures, c.in_ok-opened.ensures.after, c.in-Some.is)
-    (applied_open c.args.self.now c.in-Some.party c.args.file c.args.args.now c.args.verdict c.in_ok-opened.opened
-    c.in_ok-opened.ensures.rising c.in_default-open_stop.ensures c.in_ok-opened.ensures.value)
+    rw (c.reply-2.ensures, c.in_ok-open_file.ensures.after, c.in-Some.is)
+    (applied_open c.args.self.now c.in-Some.party c.args.file c.args.args.now c.args.verdict c.opened-opened.result
+    c.in_ok-open_file.ensures.rising c.in_default-open_stop.ensures (sym c.opened-opened.ensures))

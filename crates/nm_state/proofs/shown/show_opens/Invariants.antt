@@ -1,6 +1,6 @@
 use Rattle.std.proofs.Common.{◌≡◌, map, take}
-use Rattle.nm_cmd.specs.ShortRun.{held_row}
-use Rattle.nm_cmd.proofs.run.show_opens.Given as goal
+use Rattle.nm_rules.specs.Held.{held_row}
+use Rattle.nm_state.proofs.shown.show_opens.Given as goal
 
 -- the rows so far are shown
 abbrev pub invariant-loop-row : goal.invariant-loop-row

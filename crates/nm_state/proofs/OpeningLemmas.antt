@@ -1,12 +1,13 @@
 -- The tables after an answer are those that the code leaves.
-use Rattle.std.proofs.Common.{◌≡◌, ℕ, ◌+◌, true, cond, List, Option, Some, None, refl, ap, sym, ◌∙◌}
-use Rattle.std.specs.Prelude.{is_none, unwrap_or, IsSome}
+use Rattle.std.proofs.Common.{◌≡◌, ℕ, ◌+◌, Bool, true, false, cond, List, Option, Some, None, refl, ap, sym, ◌∙◌, arith}
+use Rattle.std.specs.Prelude.{is_none, unwrap_or, IsSome, ◌&&◌, ◌<◌, ◌^◌, nat_le}
+use Rattle.std.proofs.lemmas.Bool.Decides.{nat_tests}
 use Rattle.nm_rules.specs.Parties.{Party}
 use Rattle.nm_rules.specs.Files.{TreeNow, file_at, tree_after}
-use Rattle.nm_rules.specs.Shares.{open_of, put_open, opens_after}
+use Rattle.nm_rules.specs.Shares.{open_at, open_of, put_open, opens_after}
 use Rattle.nm_rules.specs.Past.{words, no_words, is_done, claimed_name, opener}
 use Rattle.nm_rules.specs.Seen.{Seen, look, after, after_words}
-use Rattle.nm_rules.specs.Opens.{open_checks, close_checks, close_checks_at, open_value, close_value, open_named, row_to_open, file_to_open}
+use Rattle.nm_rules.specs.Opens.{GoesOpen, open_checks, close_checks, close_checks_at, open_value, close_value, closed_stateid, open_named, row_to_open, file_to_open}
 use Rattle.nm_rules.specs.Answer.{answer_to, reply_by, reply_with, refused_value, checks}
 use Rattle.nm_rules.specs.Checks.{Stop, first}
 use Rattle.nm_rules.specs.Checks.Stop.{Refuse}
@@ -19,14 +20,15 @@ use Rattle.nm_rules.specs.declared.calls.CloseArgs.{CloseArgs}
 use Rattle.nm_rules.specs.declared.calls.StateId.{StateId}
 use Rattle.nm_rules.specs.declared.calls.Opened.{Opened}
 use Rattle.nm_rules.specs.declared.calls.Verdict.{Verdict}
-use Rattle.nm_rules.specs.declared.calls.Event.TheVariants.{Asked}
-use Rattle.nm_rules.specs.declared.calls.ReplyValue.TheVariants.{Open as OpenReply, Close as CloseReply}
+use Rattle.nm_rules.specs.declared.calls.Event.TheVariants.{Asked, Ended}
+use Rattle.nm_rules.specs.declared.calls.ReplyValue.TheVariants.{Nothing, Open as OpenReply, Close as CloseReply}
 use Rattle.nm_rules.specs.declared.status.OpStatus.{OpStatus}
 use Rattle.nm_rules.specs.declared.status.OpStatus.TheVariants.{Nfs4Ok}
 use Rattle.nm_rules.specs.declared.rows.OpenRow.{OpenRow}
 use Rattle.nm_rules.proofs.Legal.{same_row, drew_new, words-refused}
+use Rattle.nm_rules.proofs.ShareLaws.{named_is_live}
 use Rattle.nm_shares.specs.Rows.{row_to_take, last_after}
-use Rattle.nm_cmd.specs.Opening.{made_at, with_file, after_taking, after_open, after_drop, Applied}
+use Rattle.nm_state.specs.Opening.{made_at, with_file, after_taking, after_open, after_drop, after_end, Applied}
 
 same_after : (s : Seen) → after_words s no_words ≡ s
 unfolding after_words tree_after opens_after
@@ -107,6 +109,14 @@ applied_close s caller file args verdict id goes value =
       tables = sym (after-closed s caller file args verdict id);
     }
 
+-- what an OPEN that nothing stops is answered
+pub answered_open : (s : Seen) (party : Party) (file : ℕ) (args : OpenArgs) (verdict : Verdict) (opened : Opened)
+    → None ≡ first (open_checks s (Some party) args verdict) → Some opened ≡ open_value s (Some party) args
+    → reply_with Nfs4Ok (OpenReply (Some opened)) ≡ answer_to s (Asked (record { caller = Some party; file = file; deed = Open args }) verdict)
+answered_open s party file args verdict opened goes value =
+    ap (λ v. reply_with Nfs4Ok (OpenReply v)) value
+    ∙ stopped_answer s (record { caller = Some party; file = file; deed = Open args }) verdict None (sym goes)
+
 -- a CLOSE that nothing stops names a live open
 pub close_names : (s : Seen) (caller : Option Party) (file : ℕ) (args : CloseArgs) (verdict : Verdict) → None ≡ first (close_checks s caller file args verdict) → IsSome (open_named s args.stateid)
 unfolding close_checks
@@ -115,3 +125,34 @@ close_names s caller file args verdict goes = by_row (open_named s args.stateid)
     by_row : (o : Option OpenRow) → None ≡ first (close_checks_at caller file args verdict o) → IsSome o
     by_row None h = cc
     by_row (Some row) h = refl
+
+-- with its end all that an instance holds goes
+pub applied_end : (s : Seen) (party : Party) → Applied s (Ended party) (reply_with Nfs4Ok Nothing) (after_end s party)
+unfolding answer_to words after_words tree_after after_end
+applied_end s party = record { answer = refl; tables = refl }
+
+below : (a : Bool) (n : ℕ) → (a && nat_le (2 ^ 63) n) ≡ false → a ≡ true → n < 2 ^ 63
+below true n h it = grind (arith, nat_tests)
+below false n h it = cc
+
+-- where a counter is drawn there is one
+pub room_to_take : (s : Seen) (party : Party) (args : OpenArgs) → GoesOpen s party args
+    → is_none (open_of (opener party args) (file_to_open s args) s.opens) ≡ true → s.last < 2 ^ 63
+room_to_take s party args goes = below (is_none (open_of (opener party args) (file_to_open s args) s.opens)) s.last goes.counter
+
+-- where a file is made there is a number for it
+pub room_to_make : (s : Seen) (party : Party) (args : OpenArgs) → GoesOpen s party args
+    → is_none (file_at (claimed_name args.claim) s.tree.table) ≡ true → s.tree.last_file < 2 ^ 63
+room_to_make s party args goes = below (is_none (file_at (claimed_name args.claim) s.tree.table)) s.tree.last_file goes.number
+
+-- what a CLOSE that nothing stops tells is the stateid of a live open
+pub close_drops : (s : Seen) (caller : Option Party) (file : ℕ) (args : CloseArgs) (verdict : Verdict) (id : StateId)
+    → None ≡ first (close_checks s caller file args verdict) → close_value s args ≡ Some id → IsSome (open_at id.counter s.opens)
+unfolding close_value
+close_drops s caller file args verdict id goes value = by_row (open_named s args.stateid) refl value
+  where
+    by_row : (o : Option OpenRow) → open_named s args.stateid ≡ o → closed_stateid s.fs o ≡ Some id → IsSome (open_at id.counter s.opens)
+    by_row None named told = cc
+    by_row (Some row) named told =
+        let it : row.counter ≡ id.counter = cc in
+        rw (← it, named_is_live s args.stateid row named) refl

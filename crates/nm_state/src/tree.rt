@@ -1,7 +1,7 @@
 //! The files of a file system, by their names in its root.
-ghost use Rattle.std.specs.Prelude.{◌≡◌, ◌<◌, ◌+◌, ◌^◌, [], Some, OnOk, IfOk};
+ghost use Rattle.std.specs.Prelude.{◌≡◌, ◌<◌, ◌≤◌, ◌+◌, ◌^◌, [], true, Some, OnOk, IfOk, is_none};
 ghost use Rattle.nm_rules.specs.Files.{file_at, tree_after};
-ghost use Rattle.nm_cmd.specs.Opening.{with_file};
+ghost use Rattle.nm_state.specs.Opening.{with_file};
 
 use nm_rules::{Bytes, FileRow, Items, Memory};
 use std::alloc::Global;
@@ -19,7 +19,11 @@ impl Model for Tree {
 
     ghost Value = { TreeNow };
 
+    ghost use Rattle.std.specs.Prelude.{◌≤◌, ◌^◌};
+
     ghost view = { λ t. record { table = t.table; last_file = t.last_file } };
+
+    ghost invariant = { λ t. t.last_file ≤ 2 ^ 63 };
 }
 
 // The number of the file of that name.
@@ -51,9 +55,10 @@ impl Tree {
         self.table.items()
     }
 
-    /// The greatest number that a file was given, 15 where none was.
+    /// The greatest number that a file was given, 15 where none was. It is at most 2^63.
     pub fn last_file(&self) -> u64
-        ensures { result ≡ self.now.last_file }
+        ensures value { result ≡ self.now.last_file }
+        ensures bound { result ≤ 2 ^ 63 }
     {
         self.last_file
     }
@@ -83,7 +88,7 @@ impl Tree {
     /// Makes a file of that name where there is none.
     #[tactic(auto, unfolding(nm_rules::specs::Files::tree_after, crate::specs::Opening::with_file))]
     pub fn make_missing(&mut self, name: &Bytes) -> Result<(), Memory>
-        requires { self.old.last_file < 2 ^ 63 }
+        requires { is_none (file_at name.now self.old.table) ≡ true → self.old.last_file < 2 ^ 63 }
         ensures { OnOk result (self.new ≡ with_file name.now self.old) }
     {
         match self.find(name.items()) {
@@ -91,4 +96,28 @@ impl Tree {
             None => Ok(self.make(name)?),
         }
     }
+
+    /// The same files once more.
+    pub fn copy(&self, alloc: Global) -> Result<Tree, Memory>
+        ensures { IfOk result (λ tree. tree ≡ self.now) }
+    {
+        Ok(Tree {
+            table: copy_files(alloc, self.table.items())?,
+            last_file: self.last_file,
+        })
+    }
+}
+
+// The same files once more.
+fn copy_files(alloc: Global, files: &[FileRow]) -> Result<Items<FileRow>, Memory>
+    ensures { IfOk result (λ copies. copies ≡ files.now) }
+{
+    let mut copies = Items::new(alloc);
+    for row in files {
+        copies.push(FileRow {
+            number: row.number,
+            name: row.name.copy()?,
+        })?;
+    }
+    Ok(copies)
 }

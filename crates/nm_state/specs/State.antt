@@ -1,0 +1,27 @@
+-- What `FsState` is, and what an event makes of it.
+use Rattle.std.specs.Prelude.{◌≡◌, ℕ, Bool, true, false, Result, Ok, Err}
+use Rattle.nm_rules.specs.Seen.{Seen, empty, after}
+use Rattle.nm_rules.specs.Answer.{answer_to}
+use Rattle.nm_rules.specs.declared.calls.Event.{Event}
+use Rattle.nm_rules.specs.declared.calls.Reply.{Reply}
+use Rattle.nm_rules.specs.declared.memory.Memory.{Memory}
+
+-- The tables, and whether memory was wanting in the middle of a change: then nothing is known of them.
+pub record StateNow : Type 0 where
+  pub seen : Seen
+  pub spent : Bool
+
+abbrev pub fresh : ℕ → Bool → StateNow
+fresh fs grants = record { seen = empty fs grants; spent = false }
+
+-- What an event is answered, and what it leaves. A state that is spent answers want of memory alone, and one that does
+-- is spent.
+abbrev pub Applies : StateNow → Event → Result Reply Memory → StateNow → Type 0
+Applies old event (Ok reply) new =
+    (old.spent ≡ false) × (reply ≡ answer_to old.seen event) × (new ≡ record { seen = after old.seen event reply; spent = false })
+Applies old event (Err _) new = new.spent ≡ true
+
+-- What an event would be answered.
+abbrev pub Answers : StateNow → Event → Result Reply Memory → Type 0
+Answers now event (Ok reply) = (now.spent ≡ false) × (reply ≡ answer_to now.seen event)
+Answers now event (Err _) = Unit {0}

@@ -1,0 +1,102 @@
+//! The state of one file system.
+ghost use Rattle.std.specs.Prelude.{◌≡◌, false, ℕ, Bool, IfOk};
+ghost use Rattle.nm_rules.specs.Past.{Past};
+ghost use Rattle.nm_rules.specs.Seen.{seen};
+ghost use Rattle.nm_rules.specs.Answer.{answer, add};
+ghost use Rattle.nm_rules.specs.Held.{held_table};
+ghost use Rattle.nm_state.specs.State.{fresh, Applies, Answers};
+
+use crate::shown::show_opens;
+use crate::tables::Tables;
+use nm_rules::{Event, FsNum, HeldTable, Memory, Reply};
+use std::alloc::Global;
+use std::marker::Model;
+
+/// The state of one file system. Contracts see its tables, which hold what stands after the entries so far, and whether
+/// memory was wanting in the middle of a change. From then on it answers want of memory alone.
+#[derive(Debug, Drop)]
+pub struct FsState {
+    alloc: Global,
+    tables: Tables,
+    spent: bool,
+}
+
+impl Model for FsState {
+    ghost use Rattle.nm_state.specs.State.{StateNow};
+
+    ghost Value = { StateNow };
+
+    ghost view = { λ s. record { seen = s.tables; spent = s.spent } };
+}
+
+impl FsState {
+    /// The state of a file system before the first entry: no file but the root, and nothing open.
+    pub fn new(alloc: Global, fs: FsNum, grants: bool) -> Result<FsState, Memory>
+        ensures { IfOk result (λ s. s ≡ fresh fs grants) }
+    {
+        Ok(FsState {
+            alloc,
+            tables: Tables::new(alloc, fs, grants),
+            spent: false,
+        })
+    }
+
+    /// The reply that `apply` would give.
+    pub fn answer(&self, event: &Event) -> Result<Reply, Memory>
+        ensures answer { Answers self.now event.now result }
+        ensures stands { (fs : ℕ) (grants : Bool) (es : Past) → self.now.seen ≡ seen fs grants es
+            → IfOk result (λ r. r ≡ answer fs grants es event.now) }
+    {
+        if self.spent {
+            return Err(Memory);
+        }
+        self.tables.answer(event)
+    }
+
+    /// Answers an event, and changes the tables as the answer says. A state that stands for a list of entries answers as
+    /// the unmoving server does after that list, and then stands for the list with this entry.
+    #[tactic(auto, unfolding(nm_rules::specs::Seen::seen))]
+    pub fn apply(&mut self, event: &Event) -> Result<Reply, Memory>
+        ensures applies { Applies self.old event.now result self.new }
+        ensures stands { (fs : ℕ) (grants : Bool) (es : Past) → self.old.seen ≡ seen fs grants es
+            → IfOk result (λ r. (r ≡ answer fs grants es event.now) × (self.new.seen ≡ seen fs grants (add fs grants es event.now))) }
+    {
+        if self.spent {
+            return Err(Memory);
+        }
+        match self.tables.apply(event) {
+            Ok(reply) => Ok(reply),
+            Err(fault) => {
+                self.spent = true;
+                Err(fault)
+            }
+        }
+    }
+
+    /// What is held, by rising counter of the stateid.
+    #[tactic(auto, unfolding(nm_rules::specs::Held::held_table))]
+    pub fn table(&self) -> Result<HeldTable, Memory>
+        ensures table { IfOk result (λ table. table ≡ held_table self.now.seen) }
+        ensures unspent { IfOk result (λ table. self.now.spent ≡ false) }
+    {
+        if self.spent {
+            return Err(Memory);
+        }
+        show_opens(self.alloc, self.tables.files(), self.tables.opens())
+    }
+
+    /// The same state once more.
+    pub fn copy(&self) -> Result<FsState, Memory>
+        ensures value { IfOk result (λ s. s ≡ self.now) }
+        ensures unspent { IfOk result (λ s. self.now.spent ≡ false) }
+    {
+        if self.spent {
+            return Err(Memory);
+        }
+        Ok(FsState {
+            alloc: self.alloc,
+            tables: self.tables.copy()?,
+            spent: false,
+        })
+    }
+}
