@@ -1,2 +1,20 @@
 //! Records, calls and replies of RPC (RFC 5531).
+//!
+//! A stream of bytes carries records, each cut into fragments as its writer likes (section 11).
+//! [`Records`] takes the stream in any pieces and gives its records, and [`write_records`] spells a message
+//! as a record of one fragment. The layer above may rely on this: the records given and waiting are those
+//! of the stream so far, whatever pieces it came in; a stream is refused exactly at the first header with
+//! which a record would be longer than the limit; and a feed for which there is no memory leaves everything
+//! as it was.
+//!
+//! `specs/Stream` says what a fragment is, which bytes spell a record and how a stream splits into records.
+//! `specs/Feeding` says where a stream stands after some of its bytes.
 #![tactic(auto)]
+
+mod fault;
+mod joined;
+mod phase;
+mod records;
+
+pub use fault::RecordFault;
+pub use records::{Records, write_records};

@@ -1,0 +1,100 @@
+-- Where a stream stands after some of its bytes, one byte after the other.
+use Rattle.std.specs.Prelude.{◌≡◌, ℕ, ◌+◌, ◌-◌, ◌*◌, ◌^◌, ◌<◌, ◌≤◌, ◌==◌, Bool, true, false, nat_lt, List, [], ◌∷◌, ◌++◌, length, take, slice_index_or, Option, Some, None, Result, Ok, Err, if◌then◌else◌}
+use Rattle.nm_rpc.specs.declared.fault.RecordFault.{RecordFault}
+use Rattle.nm_rpc.specs.declared.fault.RecordFault.TheVariants as told
+use Rattle.nm_rpc.specs.declared.phase.Phase.{Phase}
+use Rattle.nm_rpc.specs.declared.phase.Phase.TheVariants.{Header, Body, TooLong}
+use Rattle.nm_rpc.specs.Stream.{announced, is_last}
+
+-- Records over a stream: the most bytes that a record may have, the records that wait to be given, what has come of the next record, and what the next byte belongs to.
+pub record RecordsNow : Type 0 where
+  pub limit : ℕ
+  pub waiting : List (List ℕ)
+  pub partial : List ℕ
+  pub phase : Phase
+
+-- Before the first byte.
+abbrev pub fresh : ℕ → RecordsNow
+fresh limit = record { limit = limit; waiting = []; partial = []; phase = Header 0 0 }
+
+-- A fragment has come: where it is the last, its record is whole.
+abbrev pub ended : RecordsNow → Bool → RecordsNow
+ended now true = record now { waiting = now.waiting ++ now.partial ∷ []; partial = []; phase = Header 0 0 }
+ended now false = record now { phase = Header 0 0 }
+
+-- So many bytes of a fragment are still to come.
+unfoldable pub settled : RecordsNow → ℕ → Bool → RecordsNow
+settled now left last = if left == 0 then ended now last else record now { phase = Body left last }
+
+-- A header has come: its fragment is taken where the record has room for it.
+unfoldable pub opened : RecordsNow → ℕ → RecordsNow
+opened now number =
+    if nat_lt now.limit (length now.partial + announced number) then record now { phase = TooLong (length now.partial + announced number) }
+    else settled now (announced number) (is_last number)
+
+-- These bytes of a fragment have come.
+abbrev pub grown : RecordsNow → List ℕ → RecordsNow
+grown now bytes = record now { partial = now.partial ++ bytes }
+
+-- One more byte, by what it belongs to.
+abbrev pub taken_in : RecordsNow → ℕ → Phase → RecordsNow
+taken_in now b (Header number seen) =
+    if seen == 3 then opened now (256 * number + b) else record now { phase = Header (256 * number + b) (seen + 1) }
+taken_in now b (Body left last) = settled (grown now (b ∷ [])) (left - 1) last
+taken_in now b (TooLong got) = now
+
+-- One more byte.
+unfoldable pub taken : RecordsNow → ℕ → RecordsNow
+taken now b = taken_in now b now.phase
+
+-- Some more bytes.
+unfoldable pub fed : RecordsNow → List ℕ → RecordsNow
+fed now [] = now
+fed now (b ∷ bytes) = fed (taken now b) bytes
+
+-- ---- What holds at every moment
+
+-- Fewer than four bytes of a header have come, and their number is one of so many bytes.
+abbrev pub IsHeader : ℕ → ℕ → Type 0
+IsHeader number seen =
+    (seen < 4) × (number < 2 ^ 24) × (seen ≤ 2 → number < 2 ^ 16) × (seen ≤ 1 → number < 2 ^ 8) × (seen ≡ 0 → number ≡ 0)
+
+-- A header has bytes to come, and a fragment has them too, with room for them in its record.
+abbrev pub IsWithin : ℕ → ℕ → Phase → Type 0
+IsWithin limit sum (Header number seen) = IsHeader number seen
+IsWithin limit sum (Body left last) = (0 < left) × (sum + left ≤ limit)
+IsWithin limit sum (TooLong got) = Unit {0}
+
+-- What has come of a record is never more than the limit.
+pub record IsKept (limit : ℕ) (partial : List ℕ) (phase : Phase) : Type 0 where
+  pub room : length partial ≤ limit
+  pub within : IsWithin limit (length partial) phase
+
+-- ---- Taking back
+
+-- The record that was open when so many were waiting.
+abbrev pub open_at : RecordsNow → ℕ → List ℕ
+open_at now count = if nat_lt count (length now.waiting) then slice_index_or now.waiting count [] else now.partial
+
+-- What came since then is taken back: so many records were waiting, so many bytes of the next had come, and this was what the next byte belonged to.
+abbrev pub back_to : ℕ → ℕ → Phase → RecordsNow → RecordsNow
+back_to count bytes phase now = record { limit = now.limit; waiting = take count now.waiting; partial = take bytes (open_at now count); phase = phase }
+
+-- ---- Calls
+
+-- How many bytes the record would have for which the stream was given up.
+abbrev pub refusal_of : Phase → Option ℕ
+refusal_of (Header number seen) = None
+refusal_of (Body left last) = None
+refusal_of (TooLong got) = Some got
+
+-- What feeding a piece answers and leaves: the answer is TooLong where the stream is given up by then. Want of memory leaves everything as it was.
+abbrev pub Feeds : RecordsNow → List ℕ → Result Unit RecordFault → RecordsNow → Type 0
+Feeds old piece (Ok _) new = (new ≡ fed old piece) × (refusal_of new.phase ≡ None)
+Feeds old piece (Err (told.TooLong got)) new = (new ≡ fed old piece) × (refusal_of new.phase ≡ Some got)
+Feeds old piece (Err told.Memory) new = new ≡ old
+
+-- What is given when the next record is asked for: the first that waits.
+abbrev pub Gives : RecordsNow → Option (List ℕ) → RecordsNow → Type 0
+Gives old None new = (new ≡ old) × (old.waiting ≡ [])
+Gives old (Some r) new = (new ≡ record old { waiting = new.waiting }) × (old.waiting ≡ r ∷ new.waiting)
