@@ -1,3 +1,5 @@
 pub mod FeedLaws
 pub mod BackLaws
 pub mod SpellingLaws
+pub mod RunLaws
+pub mod StreamLaws

@@ -4,7 +4,7 @@ use Rattle.nm_rpc.specs.declared.fault.RecordFault.{RecordFault}
 use Rattle.nm_rpc.specs.declared.fault.RecordFault.TheVariants as told
 use Rattle.nm_rpc.specs.declared.phase.Phase.{Phase}
 use Rattle.nm_rpc.specs.declared.phase.Phase.TheVariants.{Header, Body, TooLong}
-use Rattle.nm_rpc.specs.Stream.{announced, is_last}
+use Rattle.nm_rpc.specs.Stream.{number_of, announced, is_last, Reaches}
 
 -- Records over a stream: the most bytes that a record may have, the records that wait to be given, what has come of the next record, and what the next byte belongs to.
 pub record RecordsNow : Type 0 where
@@ -52,6 +52,24 @@ unfoldable pub fed : RecordsNow → List ℕ → RecordsNow
 fed now [] = now
 fed now (b ∷ bytes) = fed (taken now b) bytes
 
+-- ---- Where this is in the stream
+
+-- Behind fragments that add `before` to the record comes this tail, less than a fragment: it is what the phase says, and `partial` is what has come of the record.
+abbrev pub Stands : ℕ → List ℕ → List ℕ → List ℕ → Phase → Type 0
+Stands limit before tail partial (Header number seen) = (length tail ≡ seen) × (number_of tail ≡ number) × (seen < 4) × (partial ≡ before)
+Stands limit before tail partial (Body left last) =
+    (header body : List ℕ) × (tail ≡ header ++ body) × (length header ≡ 4) × (length body + left ≡ announced (number_of header)) × (0 < left)
+    × (is_last (number_of header) ≡ last) × (partial ≡ before ++ body) × (length before + announced (number_of header) ≤ limit)
+Stands limit before tail partial (TooLong got) =
+    (header more : List ℕ) × (tail ≡ header ++ more) × (length header ≡ 4) × (got ≡ length before + announced (number_of header)) × (limit < got)
+
+-- This is held after the stream so far, of which these records were given: they and those that wait are its records, and the rest is what has come of the next.
+pub record IsAfter (stream : List ℕ) (given : List (List ℕ)) (now : RecordsNow) : Type 0 where
+  pub before : List ℕ
+  pub tail : List ℕ
+  pub reaches : Reaches now.limit stream (given ++ now.waiting) before tail
+  pub stands : Stands now.limit before tail now.partial now.phase
+
 -- ---- What holds at every moment
 
 -- Fewer than four bytes of a header have come, and their number is one of so many bytes.
@@ -93,6 +111,12 @@ abbrev pub Feeds : RecordsNow → List ℕ → Result Unit RecordFault → Recor
 Feeds old piece (Ok _) new = (new ≡ fed old piece) × (refusal_of new.phase ≡ None)
 Feeds old piece (Err (told.TooLong got)) new = (new ≡ fed old piece) × (refusal_of new.phase ≡ Some got)
 Feeds old piece (Err told.Memory) new = new ≡ old
+
+-- The bytes of a piece that count: all, or none where there was no memory for it.
+abbrev pub counted : List ℕ → Result Unit RecordFault → List ℕ
+counted piece (Ok _) = piece
+counted piece (Err (told.TooLong got)) = piece
+counted piece (Err told.Memory) = []
 
 -- What is given when the next record is asked for: the first that waits.
 abbrev pub Gives : RecordsNow → Option (List ℕ) → RecordsNow → Type 0

@@ -58,17 +58,25 @@ pub record Splits (stream : List ℕ) (records : List (List ℕ)) (rest : List �
   pub whole : stream ≡ front ++ rest
   pub less : BeginsNoRecord rest
 
--- The stream is too long: behind these records, and fragments of the next, comes a header with whose fragment that record would have `got` bytes, more than the limit. Nothing before it is longer than the limit.
-pub record IsTooLong (limit : ℕ) (stream : List ℕ) (records : List (List ℕ)) (got : ℕ) : Type 0 where
+-- ---- A limit on records
+
+-- The stream goes through spellings of these records, and through fragments of the next that aren't its last and add `before` to it. Then comes the tail. Nothing up to there is longer than the limit.
+pub record Reaches (limit : ℕ) (stream : List ℕ) (records : List (List ℕ)) (before tail : List ℕ) : Type 0 where
   pub front : List ℕ
   pub earlier : List Fragment
-  pub header : List ℕ
-  pub more : List ℕ
   pub spellings : AreSpellingsOf records front
   pub within : AllByRecursion (λ r. length r ≤ limit) records
   pub not_last : AllByRecursion (IsFragment false) earlier
-  pub room : length (joined earlier) ≤ limit
+  pub parts : before ≡ joined earlier
+  pub room : length before ≤ limit
+  pub whole : stream ≡ front ++ (spelled earlier ++ tail)
+
+-- The stream is too long: behind these records, and fragments of the next, comes a header that announces a fragment with which that record would have `got` bytes, more than the limit. This is the first such header.
+pub record IsTooLong (limit : ℕ) (stream : List ℕ) (records : List (List ℕ)) (got : ℕ) : Type 0 where
+  pub before : List ℕ
+  pub header : List ℕ
+  pub more : List ℕ
+  pub reaches : Reaches limit stream records before (header ++ more)
   pub four : length header ≡ 4
-  pub whole : stream ≡ front ++ (spelled earlier ++ (header ++ more))
-  pub sum : got ≡ length (joined earlier) + announced (number_of header)
+  pub sum : got ≡ length before + announced (number_of header)
   pub past : limit < got
