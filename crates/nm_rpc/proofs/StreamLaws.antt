@@ -127,3 +127,143 @@ settled_after : (stream : List ℕ) (given : List (List ℕ)) (now : RecordsNow)
     → Begun now.limit stream (given ++ now.waiting) header body left last now.partial → IsAfter stream given (settled now left last)
 unfolding settled
 settled_after stream given now header body left last h = settled_if stream given now header body left last (left == 0) refl h
+
+-- A header has come.
+record Announced (limit : ℕ) (stream : List ℕ) (records : List (List ℕ)) (header : List ℕ) (partial : List ℕ) : Type 0 where
+  before : List ℕ
+  reaches : Reaches limit stream records before header
+  four : length header ≡ 4
+  parts : partial ≡ before
+
+with_tail : (limit : ℕ) (stream : List ℕ) (records : List (List ℕ)) (before tail other : List ℕ) → tail ≡ other → Reaches limit stream records before tail → Reaches limit stream records before other
+with_tail limit stream records before tail other e r = subst (λ (t : List ℕ). Reaches limit stream records before t) e r
+
+opened_if : (stream : List ℕ) (given : List (List ℕ)) (now : RecordsNow) (header : List ℕ) (b : Bool)
+    → nat_lt now.limit (length now.partial + announced (number_of header)) ≡ b
+    → Announced now.limit stream (given ++ now.waiting) header now.partial
+    → IsAfter stream given (cond b (record now { phase = TooLong (length now.partial + announced (number_of header)) }) (settled now (announced (number_of header)) (is_last (number_of header))))
+opened_if stream given now header true e h = record {
+  before = h.before;
+  tail = header;
+  reaches = h.reaches;
+  stands = (header, [], sym (append-nil header), h.four, ap (λ (p : List ℕ). length p + announced (number_of header)) h.parts, ltb-true _ _ e);
+}
+opened_if stream given now header false e h =
+    let fits : length now.partial + announced (number_of header) ≤ now.limit = ltb-false _ _ e in
+    settled_after stream given now header [] (announced (number_of header)) (is_last (number_of header)) (record {
+      before = h.before;
+      reaches = with_tail now.limit stream (given ++ now.waiting) h.before header (header ++ []) (sym (append-nil header)) h.reaches;
+      four = h.four;
+      count = omega arith;
+      flag = refl;
+      parts = h.parts ∙ sym (append-nil h.before);
+      fits = omega (arith, ap length h.parts, fits);
+    })
+
+opened_after : (stream : List ℕ) (given : List (List ℕ)) (now : RecordsNow) (header : List ℕ) (number : ℕ) → number_of header ≡ number
+    → Announced now.limit stream (given ++ now.waiting) header now.partial → IsAfter stream given (opened now number)
+unfolding opened
+opened_after stream given now header number e h =
+    let held = opened_if stream given now header (nat_lt now.limit (length now.partial + announced (number_of header))) refl h in
+    subst (λ (n : ℕ). IsAfter stream given (opened now n)) e held
+
+-- One byte more behind the tail.
+one_more : (limit : ℕ) (stream : List ℕ) (records : List (List ℕ)) (before tail : List ℕ) (b : ℕ) → Reaches limit stream records before tail
+    → Reaches limit (stream ++ b ∷ []) records before (tail ++ b ∷ [])
+one_more limit stream records before tail b r = record {
+  front = r.front;
+  earlier = r.earlier;
+  spellings = r.spellings;
+  within = r.within;
+  not_last = r.not_last;
+  parts = r.parts;
+  room = r.room;
+  whole = ap (λ (s : List ℕ). s ++ b ∷ []) r.whole ∙ append_assoc r.front (spelled r.earlier ++ tail) (b ∷ [])
+      ∙ ap (λ (s : List ℕ). r.front ++ s) (append_assoc (spelled r.earlier) tail (b ∷ []));
+}
+
+number_of-snoc : (tail : List ℕ) (b : ℕ) → number_of (tail ++ b ∷ []) ≡ 256 * number_of tail + b
+number_of-snoc tail b = fold-append (λ (n : ℕ) (c : ℕ). 256 * n + c) 0 tail (b ∷ [])
+
+header_if : (stream : List ℕ) (given : List (List ℕ)) (now : RecordsNow) (b number seen : ℕ) (last : Bool) → (seen == 3) ≡ last → (before tail : List ℕ)
+    → Reaches now.limit stream (given ++ now.waiting) before tail → Stands now.limit before tail now.partial (Header number seen)
+    → IsAfter (stream ++ b ∷ []) given (cond last (opened now (256 * number + b)) (record now { phase = Header (256 * number + b) (seen + 1) }))
+header_if stream given now b number seen true e before tail r s =
+    let all : seen ≡ 3 = eqb-true seen 3 e in
+    opened_after (stream ++ b ∷ []) given now (tail ++ b ∷ []) (256 * number + b) (number_of-snoc tail b ∙ ap (λ (n : ℕ). 256 * n + b) s.1) (record {
+      before = before;
+      reaches = one_more now.limit stream (given ++ now.waiting) before tail b r;
+      four = omega (arith, length-append tail (b ∷ []), s.0);
+      parts = s.3;
+    })
+header_if stream given now b number seen false e before tail r s =
+    let some : seen ≢ 3 = eqb-false seen 3 e in
+    record {
+      before = before;
+      tail = tail ++ b ∷ [];
+      reaches = one_more now.limit stream (given ++ now.waiting) before tail b r;
+      stands = (omega (arith, length-append tail (b ∷ []), s.0), number_of-snoc tail b ∙ ap (λ (n : ℕ). 256 * n + b) s.1, omega (arith, s.2), s.3);
+    }
+
+byte_after : (stream : List ℕ) (given : List (List ℕ)) (now : RecordsNow) (b : ℕ) (phase : Phase) (before tail : List ℕ)
+    → Reaches now.limit stream (given ++ now.waiting) before tail → Stands now.limit before tail now.partial phase → now.phase ≡ phase
+    → IsAfter (stream ++ b ∷ []) given (taken_in now b phase)
+byte_after stream given now b (Header number seen) before tail r s is = header_if stream given now b number seen (seen == 3) refl before tail r s
+byte_after stream given now b (Body left last) before tail r s is =
+    let header : List ℕ = s.0 in
+    let body : List ℕ = s.1 in
+    let some : 0 < left = s.5 in
+    let behind : tail ++ b ∷ [] ≡ header ++ (body ++ b ∷ []) = ap (λ (t : List ℕ). t ++ b ∷ []) s.2 ∙ append_assoc header body (b ∷ []) in
+    settled_after (stream ++ b ∷ []) given (grown now (b ∷ [])) header (body ++ b ∷ []) (left - 1) last (record {
+      before = before;
+      reaches = with_tail now.limit (stream ++ b ∷ []) (given ++ now.waiting) before (tail ++ b ∷ []) (header ++ (body ++ b ∷ [])) behind
+          (one_more now.limit stream (given ++ now.waiting) before tail b r);
+      four = s.3;
+      count = omega (arith, length-append body (b ∷ []), s.4);
+      flag = s.6;
+      parts = ap (λ (p : List ℕ). p ++ b ∷ []) s.7 ∙ append_assoc before body (b ∷ []);
+      fits = s.8;
+    })
+byte_after stream given now b (TooLong got) before tail r s is = record {
+  before = before;
+  tail = tail ++ b ∷ [];
+  reaches = one_more now.limit stream (given ++ now.waiting) before tail b r;
+  stands = subst (λ (p : Phase). Stands now.limit before (tail ++ b ∷ []) now.partial p) (sym is)
+      (s.0, s.1 ++ b ∷ [], ap (λ (t : List ℕ). t ++ b ∷ []) s.2 ∙ append_assoc s.0 s.1 (b ∷ []), s.3, s.4, s.5);
+}
+
+taken_after : (stream : List ℕ) (given : List (List ℕ)) (now : RecordsNow) (b : ℕ) → IsAfter stream given now → IsAfter (stream ++ b ∷ []) given (taken now b)
+unfolding taken
+taken_after stream given now b h = byte_after stream given now b now.phase h.before h.tail h.reaches h.stands refl
+
+-- What is held after a stream becomes, by what is fed, what is held after the longer stream.
+pub fed_after : (stream : List ℕ) (given : List (List ℕ)) (now : RecordsNow) (bytes : List ℕ) → IsAfter stream given now → IsAfter (stream ++ bytes) given (fed now bytes)
+unfolding fed
+fed_after stream given now [] h = subst (λ (s : List ℕ). IsAfter s given now) (sym (append-nil stream)) h
+fed_after stream given now (b ∷ bytes) h =
+    subst (λ (s : List ℕ). IsAfter s given (fed (taken now b) bytes)) (append_assoc stream (b ∷ []) bytes)
+    (fed_after (stream ++ b ∷ []) given (taken now b) bytes (taken_after stream given now b h))
+
+-- Before the first byte.
+pub fresh_after : (limit : ℕ) → IsAfter [] [] (fresh limit)
+fresh_after limit = record {
+  before = [];
+  tail = [];
+  reaches = record { front = []; earlier = []; spellings = refl; within = tt; not_last = tt; parts = refl; room = omega arith; whole = refl; };
+  stands = (refl, refl, omega arith, refl);
+}
+
+-- A record that waited is given.
+pub given_after : (stream : List ℕ) (given : List (List ℕ)) (old new : RecordsNow) (r : List ℕ) → new ≡ record old { waiting = new.waiting } → old.waiting ≡ r ∷ new.waiting
+    → IsAfter stream given old → IsAfter stream (given ++ r ∷ []) new
+given_after stream given old new r same first h =
+    let records : given ++ old.waiting ≡ (given ++ r ∷ []) ++ new.waiting = ap (λ (w : List (List ℕ)). given ++ w) first ∙ sym (append_assoc given (r ∷ []) new.waiting) in
+    let limits : old.limit ≡ new.limit = sym (ap (λ (n : RecordsNow). n.limit) same) in
+    let partials : old.partial ≡ new.partial = sym (ap (λ (n : RecordsNow). n.partial) same) in
+    let phases : old.phase ≡ new.phase = sym (ap (λ (n : RecordsNow). n.phase) same) in
+    record {
+      before = h.before;
+      tail = h.tail;
+      reaches = rw (← records, ← limits) h.reaches;
+      stands = rw (← limits, ← partials, ← phases) h.stands;
+    }
