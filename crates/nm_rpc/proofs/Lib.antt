@@ -3,3 +3,4 @@ pub mod BackLaws
 pub mod SpellingLaws
 pub mod RunLaws
 pub mod StreamLaws
+pub mod LimitLaws
