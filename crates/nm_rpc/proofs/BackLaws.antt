@@ -1,12 +1,12 @@
 -- What was fed since a mark is taken back.
-use Rattle.std.proofs.Common.{◌≡◌, ℕ, ◌+◌, ◌-◌, ◌*◌, ◌<◌, ◌≤◌, ◌==◌, nat_eq, nat_lt, Bool, true, false, List, [], ◌∷◌, ◌++◌, length, take, slice_index_or, cond, refl, sym, ap, ◌∙◌, subst, arith}
+use Rattle.std.proofs.Common.{◌≡◌, ℕ, ◌+◌, ◌-◌, ◌*◌, ◌≤◌, ◌==◌, nat_lt, Bool, true, false, List, [], ◌∷◌, length, take, cond, refl, ap, ◌∙◌, arith}
 use Rattle.std.proofs.lemmas.Grind.{common_steps}
 use Rattle.std.proofs.Math.Seq.{take-length as take-all}
 use Rattle.std.proofs.lemmas.Bool.Decides.{nat_tests}
 use Rattle.nm_rpc.specs.declared.phase.Phase.{Phase}
 use Rattle.nm_rpc.specs.declared.phase.Phase.TheVariants.{Header, Body, TooLong}
 use Rattle.nm_rpc.specs.Stream.{announced, is_last}
-use Rattle.nm_rpc.specs.Feeding.{RecordsNow, ended, settled, opened, grown, taken_in, taken, fed, open_at, back_to, IsKept}
+use Rattle.nm_rpc.specs.Feeding.{RecordsNow, ended, settled, opened, grown, taken_in, taken, fed, open_at, back_to}
 
 -- The mark lies in what is held, and what is taken back to it is `before`.
 record Covers (count bytes : ℕ) (before now : RecordsNow) : Type 0 where
@@ -92,3 +92,7 @@ pub back_fed : (now : RecordsNow) (count bytes : ℕ) (xs : List ℕ) → count 
 back_fed now count bytes xs count_is bytes_is =
     let h : Covers (length now.waiting) (length now.partial) now (fed now xs) = covers_fed (length now.waiting) (length now.partial) now now xs (covers_itself now) in
     rw (count_is, bytes_is) (rw (h.limit, h.waiting, h.partial) refl)
+
+-- Nothing that is fed changes the limit.
+pub limit_fed : (now : RecordsNow) (xs : List ℕ) → (fed now xs).limit ≡ now.limit
+limit_fed now xs = (covers_fed (length now.waiting) (length now.partial) now now xs (covers_itself now)).limit

@@ -1,11 +1,11 @@
 -- Feeding: bytes that belong together are taken at once, and cutting changes nothing.
-use Rattle.std.proofs.Common.{◌≡◌, ◌≢◌, ℕ, ◌+◌, ◌-◌, ◌<◌, ◌≤◌, ◌==◌, nat_eq, Bool, true, false, List, [], ◌∷◌, ◌++◌, length, take, drop, slice_index, cond, refl, sym, ap, ◌∙◌, subst, arith, append_assoc}
+use Rattle.std.proofs.Common.{◌≡◌, ℕ, ◌+◌, ◌-◌, ◌<◌, ◌≤◌, Bool, true, false, List, [], ◌∷◌, ◌++◌, length, take, drop, slice_index, refl, sym, ap, ◌∙◌, arith, append_assoc}
 use Rattle.std.proofs.Math.Seq.{take-add}
 use Rattle.std.proofs.lemmas.List.{length-take}
 use Rattle.std.proofs.lemmas.Bool.Decides.{nat_tests}
 use Rattle.nm_rpc.specs.declared.phase.Phase.{Phase}
 use Rattle.nm_rpc.specs.declared.phase.Phase.TheVariants.{Header, Body, TooLong}
-use Rattle.nm_rpc.specs.Feeding.{RecordsNow, ended, settled, opened, grown, taken_in, taken, fed}
+use Rattle.nm_rpc.specs.Feeding.{RecordsNow, settled, grown, taken_in, taken, fed}
 
 -- What is fed in two pieces is fed in one.
 pub fed_append : (now : RecordsNow) (xs ys : List ℕ) → fed now (xs ++ ys) ≡ fed (fed now xs) ys

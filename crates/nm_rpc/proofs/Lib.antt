@@ -4,3 +4,4 @@ pub mod SpellingLaws
 pub mod RunLaws
 pub mod StreamLaws
 pub mod LimitLaws
+pub mod WholeLaws

@@ -1,10 +1,10 @@
 -- A stream that isn't given up splits and isn't too long, and one that is too long is so at one place.
-use Rattle.std.proofs.Common.{◌≡◌, ◌≢◌, ℕ, ◌+◌, ◌-◌, ◌*◌, ◌%◌, ◌<◌, ◌≤◌, Bool, true, false, List, [], ◌∷◌, ◌++◌, length, fold, Option, Some, None, refl, sym, ap, ◌∙◌, subst, arith, append_assoc}
-use Rattle.std.specs.List.{flat_map, AllByRecursion}
-use Rattle.std.proofs.lemmas.List.{append-nil, length-append}
+use Rattle.std.proofs.Common.{◌≡◌, ℕ, ◌+◌, ◌<◌, ◌≤◌, true, false, List, [], ◌∷◌, ◌++◌, length, Some, None, refl, sym, ap, ◌∙◌, subst, arith, append_assoc}
+use Rattle.std.specs.List.{AllByRecursion}
+use Rattle.std.proofs.lemmas.List.{length-append}
 use Rattle.nm_rpc.specs.declared.phase.Phase.{Phase}
 use Rattle.nm_rpc.specs.declared.phase.Phase.TheVariants.{Header, Body, TooLong}
-use Rattle.nm_rpc.specs.Stream.{Fragment, IsFragment, number_of, announced, is_last, spelled, joined, IsSpellingOf, AreSpellingsOf, BeginsNoRecord, Splits, Reaches, IsTooLong}
+use Rattle.nm_rpc.specs.Stream.{Fragment, IsFragment, number_of, announced, spelled, joined, IsSpellingOf, AreSpellingsOf, Splits, Reaches, IsTooLong}
 use Rattle.nm_rpc.specs.Feeding.{RecordsNow, Stands, IsAfter, refusal_of}
 use Rattle.nm_rpc.proofs.RunLaws.{same_front, same_fragment, IsLess, no_fragment, first_of, one_flag, begins_none, same_spelling}
 
@@ -84,7 +84,7 @@ within_record (g ∷ gs) end x [] header more all_1 is_end all_2 four e =
     omega (arith, count, length-append g.body (joined (gs ++ end ∷ [])))
 within_record (g ∷ gs) end x (f ∷ fs) header more all_1 is_end all_2 four e =
     let same = same_fragment g f false false (spelled (gs ++ end ∷ []) ++ x) (spelled fs ++ (header ++ more)) all_1.0 all_2.0
-        (sym (first_of g (gs ++ end ∷ []) x) ∙ e ∙ first_of f fs (header ++ more)) in
+    (sym (first_of g (gs ++ end ∷ []) x) ∙ e ∙ first_of f fs (header ++ more)) in
     let rest = within_record gs end x fs header more all_1.1 is_end all_2.1 four same.2 in
     omega (arith, rest, ap length same.1, length-append g.body (joined (gs ++ end ∷ [])), length-append f.body (joined fs))
 
@@ -102,10 +102,10 @@ within_open limit n (g ∷ gs) tail [] header more all_1 all_2 less fits room fo
     omega (arith, count, room, length-append g.body (joined gs))
 within_open limit n (g ∷ gs) tail (f ∷ fs) header more all_1 all_2 less fits room four e =
     let same = same_fragment g f false false (spelled gs ++ tail) (spelled fs ++ (header ++ more)) all_1.0 all_2.0
-        (sym (first_of g gs tail) ∙ e ∙ first_of f fs (header ++ more)) in
+    (sym (first_of g gs tail) ∙ e ∙ first_of f fs (header ++ more)) in
     let sum : length (joined (g ∷ gs)) ≡ length g.body + length (joined gs) = length-append g.body (joined gs) in
     let rest = within_open limit (n + length g.body) gs tail fs header more all_1.1 all_2.1 less
-        (λ h m at_four at. omega (arith, fits h m at_four at, sum)) (omega (arith, room, sum)) four same.2 in
+    (λ h m at_four at. omega (arith, fits h m at_four at, sum)) (omega (arith, room, sum)) four same.2 in
     omega (arith, rest, ap length same.1, length-append f.body (joined fs))
 
 -- Where a header announces too much, a stream isn't held open.
@@ -125,15 +125,15 @@ not_open limit (r ∷ rs) [] a b e1 e2 tail header more is_a is_b short all_1 al
     let x : List ℕ = spelled e1 ++ tail in
     let spelling = is_a.2 in
     let bytes : spelled (spelling.earlier ++ spelling.end ∷ []) ++ (is_a.1 ++ x) ≡ spelled e2 ++ (header ++ more) =
-        ap (λ (f : List ℕ). f ++ (is_a.1 ++ x)) (sym spelling.whole) ∙ sym (append_assoc is_a.0 is_a.1 x) ∙ ap (λ (f : List ℕ). f ++ x) (sym is_a.4) ∙ e
-        ∙ ap (λ (f : List ℕ). f ++ (spelled e2 ++ (header ++ more))) is_b in
+    ap (λ (f : List ℕ). f ++ (is_a.1 ++ x)) (sym spelling.whole) ∙ sym (append_assoc is_a.0 is_a.1 x) ∙ ap (λ (f : List ℕ). f ++ x) (sym is_a.4) ∙ e
+    ∙ ap (λ (f : List ℕ). f ++ (spelled e2 ++ (header ++ more))) is_b in
     let bound = within_record spelling.earlier spelling.end (is_a.1 ++ x) e2 header more spelling.not_last spelling.last all_2 four bytes in
     omega (arith, bound, ap length spelling.parts, short.0)
 not_open limit (r ∷ rs) (s ∷ ss) a b e1 e2 tail header more is_a is_b short all_1 all_2 room at four e =
     let x : List ℕ = spelled e1 ++ tail in
     let y : List ℕ = spelled e2 ++ (header ++ more) in
     let bytes : is_a.0 ++ (is_a.1 ++ x) ≡ is_b.0 ++ (is_b.1 ++ y) =
-        sym (append_assoc is_a.0 is_a.1 x) ∙ ap (λ (f : List ℕ). f ++ x) (sym is_a.4) ∙ e ∙ ap (λ (f : List ℕ). f ++ y) is_b.4 ∙ append_assoc is_b.0 is_b.1 y in
+    sym (append_assoc is_a.0 is_a.1 x) ∙ ap (λ (f : List ℕ). f ++ x) (sym is_a.4) ∙ e ∙ ap (λ (f : List ℕ). f ++ y) is_b.4 ∙ append_assoc is_b.0 is_b.1 y in
     let first = same_spelling r s is_a.0 is_b.0 (is_a.1 ++ x) (is_b.1 ++ y) is_a.2 is_b.2 bytes in
     not_open limit rs ss is_a.1 is_b.1 e1 e2 tail header more is_a.3 is_b.3 short.1 all_1 all_2 room at four first.1
 
@@ -145,7 +145,7 @@ after_fits stream given now records got h is long =
     let at = open_tail now.limit h.before h.tail now.partial now.phase h.stands is in
     let open_here : IsOpen now.limit (joined r.earlier) h.tail = subst (λ (b : List ℕ). IsOpen now.limit b h.tail) r.parts at in
     let bound = not_open now.limit (given ++ now.waiting) records r.front l.front r.earlier l.earlier h.tail long.header long.more r.spellings l.spellings r.within r.not_last l.not_last
-        (omega (arith, r.room, ap length r.parts)) open_here long.four (sym r.whole ∙ l.whole) in
+    (omega (arith, r.room, ap length r.parts)) open_here long.four (sym r.whole ∙ l.whole) in
     omega (arith, bound, long.sum, long.past, ap length l.parts)
 
 -- ---- One place
@@ -171,11 +171,11 @@ same_header limit n (g ∷ gs) [] h1 m1 h2 m2 all_1 all_2 four_1 four_2 room_1 r
     absurd (omega (arith, count, past_2, room_1, length-append g.body (joined gs)))
 same_header limit n (g ∷ gs) (f ∷ fs) h1 m1 h2 m2 all_1 all_2 four_1 four_2 room_1 room_2 past_1 past_2 e =
     let same = same_fragment g f false false (spelled gs ++ (h1 ++ m1)) (spelled fs ++ (h2 ++ m2)) all_1.0 all_2.0
-        (sym (first_of g gs (h1 ++ m1)) ∙ e ∙ first_of f fs (h2 ++ m2)) in
+    (sym (first_of g gs (h1 ++ m1)) ∙ e ∙ first_of f fs (h2 ++ m2)) in
     let sum_1 : length (joined (g ∷ gs)) ≡ length g.body + length (joined gs) = length-append g.body (joined gs) in
     let sum_2 : length (joined (f ∷ fs)) ≡ length g.body + length (joined fs) = length-append f.body (joined fs) ∙ ap (λ (b : List ℕ). length b + length (joined fs)) (sym same.1) in
     let rest = same_header limit (n + length g.body) gs fs h1 m1 h2 m2 all_1.1 all_2.1 four_1 four_2
-        (omega (arith, room_1, sum_1)) (omega (arith, room_2, sum_2)) (omega (arith, past_1, sum_1)) (omega (arith, past_2, sum_2)) same.2 in
+    (omega (arith, room_1, sum_1)) (omega (arith, room_2, sum_2)) (omega (arith, past_1, sum_1)) (omega (arith, past_2, sum_2)) same.2 in
     omega (arith, rest, sum_1, sum_2)
 
 -- A whole record that fits isn't where a header announces too much.
@@ -193,7 +193,7 @@ same_refusal : (limit : ℕ) (rs ss : List (List ℕ)) (a b : List ℕ) (e1 e2 :
     → (rs ≡ ss) × (length (joined e1) + announced (number_of h1) ≡ length (joined e2) + announced (number_of h2))
 same_refusal limit [] [] a b e1 e2 h1 m1 h2 m2 is_a is_b short_1 short_2 all_1 all_2 four_1 four_2 room_1 room_2 past_1 past_2 e =
     let bytes : spelled e1 ++ (h1 ++ m1) ≡ spelled e2 ++ (h2 ++ m2) =
-        ap (λ (f : List ℕ). f ++ (spelled e1 ++ (h1 ++ m1))) (sym is_a) ∙ e ∙ ap (λ (f : List ℕ). f ++ (spelled e2 ++ (h2 ++ m2))) is_b in
+    ap (λ (f : List ℕ). f ++ (spelled e1 ++ (h1 ++ m1))) (sym is_a) ∙ e ∙ ap (λ (f : List ℕ). f ++ (spelled e2 ++ (h2 ++ m2))) is_b in
     let sums = same_header limit 0 e1 e2 h1 m1 h2 m2 all_1 all_2 four_1 four_2 (omega arith) (omega arith) (omega arith) (omega arith) bytes in
     (refl, omega (arith, sums))
 same_refusal limit [] (s ∷ ss) a b e1 e2 h1 m1 h2 m2 is_a is_b short_1 short_2 all_1 all_2 four_1 four_2 room_1 room_2 past_1 past_2 e =
@@ -208,7 +208,7 @@ same_refusal limit (r ∷ rs) (s ∷ ss) a b e1 e2 h1 m1 h2 m2 is_a is_b short_1
     let x : List ℕ = spelled e1 ++ (h1 ++ m1) in
     let y : List ℕ = spelled e2 ++ (h2 ++ m2) in
     let bytes : is_a.0 ++ (is_a.1 ++ x) ≡ is_b.0 ++ (is_b.1 ++ y) =
-        sym (append_assoc is_a.0 is_a.1 x) ∙ ap (λ (f : List ℕ). f ++ x) (sym is_a.4) ∙ e ∙ ap (λ (f : List ℕ). f ++ y) is_b.4 ∙ append_assoc is_b.0 is_b.1 y in
+    sym (append_assoc is_a.0 is_a.1 x) ∙ ap (λ (f : List ℕ). f ++ x) (sym is_a.4) ∙ e ∙ ap (λ (f : List ℕ). f ++ y) is_b.4 ∙ append_assoc is_b.0 is_b.1 y in
     let first = same_spelling r s is_a.0 is_b.0 (is_a.1 ++ x) (is_b.1 ++ y) is_a.2 is_b.2 bytes in
     let others = same_refusal limit rs ss is_a.1 is_b.1 e1 e2 h1 m1 h2 m2 is_a.3 is_b.3 short_1.1 short_2.1 all_1 all_2 four_1 four_2 room_1 room_2 past_1 past_2 first.1 in
     (ap (λ (z : List ℕ). z ∷ rs) first.0 ∙ ap (λ (zs : List (List ℕ)). s ∷ zs) others.0, others.1)
@@ -220,5 +220,5 @@ one_refusal limit stream rs ss m n a b =
     let before_1 = ap length r.parts in
     let before_2 = ap length s.parts in
     let same = same_refusal limit rs ss r.front s.front r.earlier s.earlier a.header a.more b.header b.more r.spellings s.spellings r.within s.within r.not_last s.not_last a.four b.four
-        (omega (arith, r.room, before_1)) (omega (arith, s.room, before_2)) (omega (arith, a.past, a.sum, before_1)) (omega (arith, b.past, b.sum, before_2)) (sym r.whole ∙ s.whole) in
+    (omega (arith, r.room, before_1)) (omega (arith, s.room, before_2)) (omega (arith, a.past, a.sum, before_1)) (omega (arith, b.past, b.sum, before_2)) (sym r.whole ∙ s.whole) in
     (same.0, omega (arith, same.1, a.sum, b.sum, before_1, before_2))

@@ -1,10 +1,8 @@
 -- Runs of fragments: where two begin alike, they are alike.
-use Rattle.std.proofs.Common.{◌≡◌, ◌≢◌, ℕ, ◌+◌, ◌-◌, ◌*◌, ◌%◌, ◌<◌, ◌≤◌, Bool, true, false, List, [], ◌∷◌, ◌++◌, length, take, drop, fold, refl, sym, ap, ◌∙◌, subst, arith, append_assoc}
-use Rattle.std.specs.List.{flat_map, AllByRecursion}
+use Rattle.std.proofs.Common.{◌≡◌, ℕ, Bool, true, false, List, [], ◌∷◌, ◌++◌, length, take, drop, refl, sym, ap, ◌∙◌, append_assoc}
+use Rattle.std.specs.List.{AllByRecursion}
 use Rattle.std.proofs.Math.Seq.{take-append_seam, drop-append_seam}
-use Rattle.std.proofs.lemmas.List.{append-nil, length-append}
-use Rattle.std.proofs.lemmas.Grind.{flat_map-append}
-use Rattle.nm_rpc.specs.Stream.{Fragment, IsFragment, number_of, announced, is_last, spelled, joined, IsSpellingOf, AreSpellingsOf, BeginsNoRecord, Splits, Reaches, IsTooLong}
+use Rattle.nm_rpc.specs.Stream.{Fragment, IsFragment, number_of, announced, is_last, spelled, joined, IsSpellingOf, AreSpellingsOf, BeginsNoRecord, Splits}
 
 -- Lists that begin with as many items, and are one list.
 pub same_front : {A : Type 0} (a b x y : List A) → length a ≡ length b → a ++ x ≡ b ++ y → (a ≡ b) × (x ≡ y)
@@ -80,7 +78,7 @@ same_run (g ∷ gs) end1 x (f ∷ fs) end2 y all_1 is_1 all_2 is_2 e =
 pub same_spelling : (r s a b x y : List ℕ) → IsSpellingOf r a → IsSpellingOf s b → a ++ x ≡ b ++ y → (r ≡ s) × (x ≡ y)
 same_spelling r s a b x y is_a is_b e =
     let bytes : spelled (is_a.earlier ++ is_a.end ∷ []) ++ x ≡ spelled (is_b.earlier ++ is_b.end ∷ []) ++ y =
-        ap (λ (f : List ℕ). f ++ x) (sym is_a.whole) ∙ e ∙ ap (λ (f : List ℕ). f ++ y) is_b.whole in
+    ap (λ (f : List ℕ). f ++ x) (sym is_a.whole) ∙ e ∙ ap (λ (f : List ℕ). f ++ y) is_b.whole in
     let same = same_run is_a.earlier is_a.end x is_b.earlier is_b.end y is_a.not_last is_a.last is_b.not_last is_b.last bytes in
     (is_a.parts ∙ same.0 ∙ sym is_b.parts, same.1)
 
@@ -94,7 +92,7 @@ same_records (r ∷ rs) [] a b x y is_a is_b less_x less_y e =
     absurd (less_y r is_a.0 (is_a.1 ++ x) is_a.2 (ap (λ (f : List ℕ). f ++ y) (sym is_b) ∙ sym e ∙ ap (λ (f : List ℕ). f ++ x) is_a.4 ∙ append_assoc is_a.0 is_a.1 x))
 same_records (r ∷ rs) (s ∷ ss) a b x y is_a is_b less_x less_y e =
     let bytes : is_a.0 ++ (is_a.1 ++ x) ≡ is_b.0 ++ (is_b.1 ++ y) =
-        sym (append_assoc is_a.0 is_a.1 x) ∙ ap (λ (f : List ℕ). f ++ x) (sym is_a.4) ∙ e ∙ ap (λ (f : List ℕ). f ++ y) is_b.4 ∙ append_assoc is_b.0 is_b.1 y in
+    sym (append_assoc is_a.0 is_a.1 x) ∙ ap (λ (f : List ℕ). f ++ x) (sym is_a.4) ∙ e ∙ ap (λ (f : List ℕ). f ++ y) is_b.4 ∙ append_assoc is_b.0 is_b.1 y in
     let first = same_spelling r s is_a.0 is_b.0 (is_a.1 ++ x) (is_b.1 ++ y) is_a.2 is_b.2 bytes in
     let others = same_records rs ss is_a.1 is_b.1 x y is_a.3 is_b.3 less_x less_y first.1 in
     (ap (λ (z : List ℕ). z ∷ rs) first.0 ∙ ap (λ (zs : List (List ℕ)). s ∷ zs) others.0, others.1)

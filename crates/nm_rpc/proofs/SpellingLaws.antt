@@ -1,10 +1,10 @@
 -- Spellings of records.
-use Rattle.std.proofs.Common.{◌≡◌, ℕ, ◌+◌, ◌*◌, ◌%◌, ◌^◌, ◌<◌, ◌≤◌, Bool, true, false, List, [], ◌∷◌, ◌++◌, length, fold, refl, sym, ap, ◌∙◌, subst, arith}
+use Rattle.std.proofs.Common.{◌≡◌, ℕ, ◌+◌, ◌%◌, ◌^◌, ◌<◌, List, [], ◌++◌, length, refl, sym, ap, ◌∙◌, arith}
 use Rattle.std.proofs.lemmas.Bool.{le-leb}
 use Rattle.std.proofs.lemmas.List.{append-nil}
 use Rattle.std.proofs.lemmas.Nat.{from_be_bytes-to_be_bytes_4}
 use Rattle.nm_xdr.specs.Items.{word}
-use Rattle.nm_rpc.specs.Stream.{Fragment, IsFragment, IsSpellingOf, number_of, announced, is_last}
+use Rattle.nm_rpc.specs.Stream.{IsSpellingOf, number_of, announced, is_last}
 
 -- A number is that of its word.
 pub number_of-word : (n : ℕ) → n < 2 ^ 32 → number_of (word n) ≡ n

@@ -1,14 +1,13 @@
 -- What is held after a stream is what the stream's records and its rest say.
-use Rattle.std.proofs.Common.{◌≡◌, ◌≢◌, ℕ, ◌+◌, ◌-◌, ◌*◌, ◌%◌, ◌<◌, ◌≤◌, ◌==◌, nat_eq, nat_lt, Bool, true, false, cond, List, [], ◌∷◌, ◌++◌, length, fold, Option, Some, None, refl, sym, ap, ◌∙◌, subst, arith, append_assoc}
-use Rattle.std.specs.List.{flat_map, AllByRecursion}
+use Rattle.std.proofs.Common.{◌≡◌, ◌≢◌, ℕ, ◌+◌, ◌-◌, ◌*◌, ◌<◌, ◌≤◌, ◌==◌, nat_lt, Bool, true, false, cond, List, [], ◌∷◌, ◌++◌, length, refl, sym, ap, ◌∙◌, subst, arith, append_assoc}
+use Rattle.std.specs.List.{AllByRecursion}
 use Rattle.std.proofs.lemmas.List.{append-nil, length-append}
 use Rattle.std.proofs.lemmas.Grind.{flat_map-append, fold-append}
 use Rattle.std.proofs.lemmas.Bool.{eqb-true, eqb-false, ltb-true, ltb-false}
 use Rattle.nm_rpc.specs.declared.phase.Phase.{Phase}
 use Rattle.nm_rpc.specs.declared.phase.Phase.TheVariants.{Header, Body, TooLong}
-use Rattle.nm_rpc.specs.Stream.{Fragment, IsFragment, number_of, announced, is_last, spelled, joined, IsSpellingOf, AreSpellingsOf, BeginsNoRecord, Splits, Reaches, IsTooLong}
-use Rattle.nm_rpc.specs.Feeding.{RecordsNow, fresh, ended, settled, opened, grown, taken_in, taken, fed, Stands, IsAfter, refusal_of}
-use Rattle.nm_rpc.proofs.RunLaws.{same_front, same_fragment, IsLess, no_fragment, first_of, one_flag, begins_none, same_spelling}
+use Rattle.nm_rpc.specs.Stream.{Fragment, IsFragment, number_of, announced, is_last, spelled, joined, IsSpellingOf, AreSpellingsOf, Reaches}
+use Rattle.nm_rpc.specs.Feeding.{RecordsNow, fresh, ended, settled, opened, grown, taken_in, taken, fed, Stands, IsAfter}
 
 all_snoc : {A : Type 0} (P : A → Type 0) (xs : List A) (x : A) → AllByRecursion P xs → P x → AllByRecursion P (xs ++ x ∷ [])
 all_snoc P [] x all px = (px, tt)
@@ -146,7 +145,7 @@ opened_if stream given now header true e h = record {
   before = h.before;
   tail = header;
   reaches = h.reaches;
-  stands = (header, [], sym (append-nil header), h.four, ap (λ (p : List ℕ). length p + announced (number_of header)) h.parts, ltb-true _ _ e);
+  stands = (header, [], sym (append-nil header), h.four, ap (λ (p : List ℕ). length p + announced (number_of header)) h.parts, ltb-true _ _ e, h.parts);
 }
 opened_if stream given now header false e h =
     let fits : length now.partial + announced (number_of header) ≤ now.limit = ltb-false _ _ e in
@@ -229,7 +228,7 @@ byte_after stream given now b (TooLong got) before tail r s is = record {
   tail = tail ++ b ∷ [];
   reaches = one_more now.limit stream (given ++ now.waiting) before tail b r;
   stands = subst (λ (p : Phase). Stands now.limit before (tail ++ b ∷ []) now.partial p) (sym is)
-      (s.0, s.1 ++ b ∷ [], ap (λ (t : List ℕ). t ++ b ∷ []) s.2 ∙ append_assoc s.0 s.1 (b ∷ []), s.3, s.4, s.5);
+      (s.0, s.1 ++ b ∷ [], ap (λ (t : List ℕ). t ++ b ∷ []) s.2 ∙ append_assoc s.0 s.1 (b ∷ []), s.3, s.4, s.5, s.6);
 }
 
 taken_after : (stream : List ℕ) (given : List (List ℕ)) (now : RecordsNow) (b : ℕ) → IsAfter stream given now → IsAfter (stream ++ b ∷ []) given (taken now b)
@@ -249,7 +248,7 @@ pub fresh_after : (limit : ℕ) → IsAfter [] [] (fresh limit)
 fresh_after limit = record {
   before = [];
   tail = [];
-  reaches = record { front = []; earlier = []; spellings = refl; within = tt; not_last = tt; parts = refl; room = omega arith; whole = refl; };
+  reaches = record { front = []; earlier = []; spellings = refl; within = tt; not_last = tt; parts = refl; room = omega arith; whole = refl };
   stands = (refl, refl, omega arith, refl);
 }
 

@@ -4,7 +4,7 @@ use Rattle.nm_rpc.specs.declared.fault.RecordFault.{RecordFault}
 use Rattle.nm_rpc.specs.declared.fault.RecordFault.TheVariants as told
 use Rattle.nm_rpc.specs.declared.phase.Phase.{Phase}
 use Rattle.nm_rpc.specs.declared.phase.Phase.TheVariants.{Header, Body, TooLong}
-use Rattle.nm_rpc.specs.Stream.{number_of, announced, is_last, Reaches}
+use Rattle.nm_rpc.specs.Stream.{number_of, announced, is_last, Reaches, IsTooLong}
 
 -- Records over a stream: the most bytes that a record may have, the records that wait to be given, what has come of the next record, and what the next byte belongs to.
 pub record RecordsNow : Type 0 where
@@ -61,7 +61,7 @@ Stands limit before tail partial (Body left last) =
     (header body : List ℕ) × (tail ≡ header ++ body) × (length header ≡ 4) × (length body + left ≡ announced (number_of header)) × (0 < left)
     × (is_last (number_of header) ≡ last) × (partial ≡ before ++ body) × (length before + announced (number_of header) ≤ limit)
 Stands limit before tail partial (TooLong got) =
-    (header more : List ℕ) × (tail ≡ header ++ more) × (length header ≡ 4) × (got ≡ length before + announced (number_of header)) × (limit < got)
+    (header more : List ℕ) × (tail ≡ header ++ more) × (length header ≡ 4) × (got ≡ length before + announced (number_of header)) × (limit < got) × (partial ≡ before)
 
 -- This is held after the stream so far, of which these records were given: they and those that wait are its records, and the rest is what has come of the next.
 pub record IsAfter (stream : List ℕ) (given : List (List ℕ)) (now : RecordsNow) : Type 0 where
@@ -122,3 +122,8 @@ counted piece (Err told.Memory) = []
 abbrev pub Gives : RecordsNow → Option (List ℕ) → RecordsNow → Type 0
 Gives old None new = (new ≡ old) × (old.waiting ≡ [])
 Gives old (Some r) new = (new ≡ record old { waiting = new.waiting }) × (old.waiting ≡ r ∷ new.waiting)
+
+-- What is answered of a whole stream that isn't taken: TooLong where it is too long.
+abbrev pub IsRefusal : ℕ → List ℕ → RecordFault → Type 0
+IsRefusal limit stream (told.TooLong got) = (records : List (List ℕ)) × IsTooLong limit stream records got
+IsRefusal limit stream told.Memory = Unit {0}

@@ -1,9 +1,11 @@
 //! Records out of a stream's bytes, and a message as a record.
 
-ghost use Rattle.std.specs.Prelude.{◌≡◌, ℕ, ◌+◌, ◌-◌, ◌<◌, ◌≤◌, ◌^◌, List, [], ◌∷◌, ◌++◌, length, take, Some, option_map, IfOk, OnOk, OnErr};
+ghost use Rattle.std.specs.Prelude.{◌≡◌, ℕ, ◌+◌, ◌-◌, ◌<◌, ◌≤◌, ◌^◌, List, [], ◌∷◌, ◌++◌, length, take, Some, Err, option_map, IfOk, OnOk, OnErr};
 ghost use Rattle.nm_xdr.specs.Items.{word};
 ghost use Rattle.nm_rpc.specs.Stream.{IsSpellingOf};
-ghost use Rattle.nm_rpc.specs.Feeding.{fresh, settled, opened, grown, taken_in, fed, IsHeader, IsKept, back_to, refusal_of, Feeds, Gives};
+ghost use Rattle.nm_rpc.specs.Feeding.{fresh, settled, opened, grown, taken_in, fed, IsHeader, IsKept, back_to, IsAfter, refusal_of, Feeds, counted, Gives};
+ghost use Rattle.nm_rpc.specs.declared.fault.RecordFault.TheVariants.{TooLong};
+ghost use Rattle.std.specs.Option.{option_to_list};
 ghost use Rattle.nm_rpc.specs.declared.phase.Phase.TheVariants.{Header};
 
 use crate::fault::RecordFault;
@@ -69,15 +71,53 @@ impl Records {
     /// TooLong exactly where a record's fragments so far, with the one that its last header announces, add up
     /// past the limit. Every later feed answers the same. Memory where there is none for what the piece
     /// adds: then everything is as it was.
-    #[tactic(auto, using(crate::proofs::BackLaws::back_fed))]
+    #[tactic(auto, using(crate::proofs::WholeLaws::feeds_after))]
     pub fn feed(&mut self, piece: &[u8]) -> Result<(), RecordFault>
-        ensures { Feeds self.old piece.now result self.new }
+        ensures fed { Feeds self.old piece.now result self.new }
+
+        // What is held is of the whole stream so far, however it was cut.
+        ensures stream { (stream : List ℕ) (given : List (List ℕ)) → IsAfter stream given self.old
+            → IsAfter (stream ++ counted piece.now result) given self.new }
+        ensures again { (got : ℕ) → refusal_of self.old.phase ≡ Some got
+            → (result ≡ Err (TooLong got)) × (self.new ≡ self.old) }
+    {
+        self.take_or_stay(piece)
+    }
+
+    /// The next record that is whole, None where none is waiting.
+    pub fn next(&mut self) -> Option<Vec<u8>>
+        ensures given { Gives self.old (option_map (λ r. r.items) result) self.new }
+        ensures stream { (stream : List ℕ) (given : List (List ℕ)) → IsAfter stream given self.old
+            → IsAfter stream (given ++ option_to_list (option_map (λ r. r.items) result)) self.new }
+    {
+        self.pop()
+    }
+
+    // The first record that waits.
+    fn pop(&mut self) -> Option<Vec<u8>>
+        ensures { Gives self.old (option_map (λ r. r.items) result) self.new }
+    {
+        match self.waiting.pop_front() {
+            Some(record) => Some(record.into_bytes()),
+            None => None,
+        }
+    }
+
+    // Takes a piece, or where there is no memory for it leaves everything as it was.
+    #[tactic(auto, using(crate::proofs::BackLaws::back_fed, crate::proofs::FeedLaws::stopped_fed))]
+    fn take_or_stay(&mut self, piece: &[u8]) -> Result<(), RecordFault>
+        ensures fed { Feeds self.old piece.now result self.new }
+        ensures again { (got : ℕ) → refusal_of self.old.phase ≡ Some got
+            → (result ≡ Err (TooLong got)) × (self.new ≡ self.old) }
     {
         let mark = Mark {
             waiting: self.waiting.len(),
             partial: self.partial.len(),
             phase: self.phase,
         };
+        if let Phase::TooLong { got } = mark.phase {
+            return Err(RecordFault::TooLong { got });
+        }
         if let Err(Memory) = self.take(piece) {
             self.go_back(mark);
             return Err(RecordFault::Memory);
@@ -85,16 +125,6 @@ impl Records {
         match self.phase {
             Phase::TooLong { got } => Err(RecordFault::TooLong { got }),
             _ => Ok(()),
-        }
-    }
-
-    /// The next record that is whole, None where none is waiting.
-    pub fn next(&mut self) -> Option<Vec<u8>>
-        ensures { Gives self.old (option_map (λ r. r.items) result) self.new }
-    {
-        match self.waiting.pop_front() {
-            Some(record) => Some(record.into_bytes()),
-            None => None,
         }
     }
 
