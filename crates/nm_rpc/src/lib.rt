@@ -15,6 +15,8 @@ mod fault;
 mod joined;
 mod phase;
 mod pieces;
+#[cfg(test)]
+mod record_tests;
 mod records;
 mod stream_laws;
 
