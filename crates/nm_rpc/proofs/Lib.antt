@@ -5,3 +5,4 @@ pub mod RunLaws
 pub mod StreamLaws
 pub mod LimitLaws
 pub mod WholeLaws
+pub mod WrittenLaws

@@ -11,9 +11,9 @@ use Rattle.nm_rpc.proofs.RunLaws.{same_front, same_fragment, IsLess, no_fragment
 -- ---- Not given up
 
 -- The tail that is held is less than a fragment, and a header at its front announces what fits.
-record IsOpen (limit : ℕ) (before tail : List ℕ) : Type 0 where
-  less : IsLess tail
-  fits : (header more : List ℕ) → length header ≡ 4 → tail ≡ header ++ more → length before + announced (number_of header) ≤ limit
+pub record IsOpen (limit : ℕ) (before tail : List ℕ) : Type 0 where
+  pub less : IsLess tail
+  pub fits : (header more : List ℕ) → length header ≡ 4 → tail ≡ header ++ more → length before + announced (number_of header) ≤ limit
 
 open_tail : (limit : ℕ) (before tail partial : List ℕ) (phase : Phase) → Stands limit before tail partial phase → refusal_of phase ≡ None → IsOpen limit before tail
 open_tail limit before tail partial (Header number seen) s is = record {
@@ -109,7 +109,7 @@ within_open limit n (g ∷ gs) tail (f ∷ fs) header more all_1 all_2 less fits
     omega (arith, rest, ap length same.1, length-append f.body (joined fs))
 
 -- Where a header announces too much, a stream isn't held open.
-not_open : (limit : ℕ) (rs ss : List (List ℕ)) (a b : List ℕ) (e1 e2 : List Fragment) (tail header more : List ℕ) → AreSpellingsOf rs a → AreSpellingsOf ss b
+pub not_open : (limit : ℕ) (rs ss : List (List ℕ)) (a b : List ℕ) (e1 e2 : List Fragment) (tail header more : List ℕ) → AreSpellingsOf rs a → AreSpellingsOf ss b
     → AllByRecursion (λ r. length r ≤ limit) rs → AllByRecursion (IsFragment false) e1 → AllByRecursion (IsFragment false) e2
     → length (joined e1) ≤ limit → IsOpen limit (joined e1) tail → length header ≡ 4 → a ++ (spelled e1 ++ tail) ≡ b ++ (spelled e2 ++ (header ++ more))
     → length (joined e2) + announced (number_of header) ≤ limit

@@ -24,5 +24,6 @@ pub use fault::RecordFault;
 pub use pieces::split_records;
 pub use records::{Records, write_records};
 pub use stream_laws::{
-    cutting_changes_nothing, headers_are_words, held_is_of_the_stream, streams_split_in_one_way,
+    cutting_changes_nothing, headers_are_words, held_is_of_the_stream, spelled_records_are_given,
+    streams_split_in_one_way,
 };

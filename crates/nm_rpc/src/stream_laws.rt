@@ -1,8 +1,9 @@
 //! What holds of every stream of records, each law the contract of a function that does nothing.
 
-ghost use Rattle.std.specs.Prelude.{◌≡◌, ℕ, ◌+◌, ◌≤◌, ◌<◌, ◌^◌, List, [], ◌++◌, length, sum_by, None, Some};
+ghost use Rattle.std.specs.Prelude.{◌≡◌, ℕ, ◌+◌, ◌≤◌, ◌<◌, ◌^◌, Bool, List, [], ◌++◌, length, slice_index, sum_by, None, Some, if◌then◌else◌};
+ghost use Rattle.std.specs.List.{AllByRecursion};
 ghost use Rattle.nm_xdr.specs.Items.{word};
-ghost use Rattle.nm_rpc.specs.Stream.{number_of, IsSpellingOf, Splits, IsTooLong};
+ghost use Rattle.nm_rpc.specs.Stream.{IsFragment, number_of, AreSpellingsOf, Splits, IsTooLong};
 ghost use Rattle.nm_rpc.specs.Feeding.{RecordsNow, fresh, fed, IsAfter, refusal_of};
 
 /// A stream splits into records in one way, and is too long at one place.
@@ -34,9 +35,17 @@ pub fn cutting_changes_nothing()
     ensures stays { (now : RecordsNow) (bytes : List ℕ) (got : ℕ) → refusal_of now.phase ≡ Some got → fed now bytes ≡ now }
 {}
 
-/// A header is a word of XDR, and a word after which a message of its length comes spells that message.
+/// Records that are spelled one after the other, none longer than the limit, are given again, all of them.
+pub fn spelled_records_are_given()
+    ensures { (limit : ℕ) (records : List (List ℕ)) (bytes : List ℕ) → AreSpellingsOf records bytes
+        → AllByRecursion (λ r. length r ≤ limit) records
+        → ((fed (fresh limit) bytes).waiting ≡ records) × (refusal_of (fed (fresh limit) bytes).phase ≡ None) }
+{}
+
+/// A header is a word of XDR: its top bit, and in the others a length. The bytes of a header are that word.
 pub fn headers_are_words()
-    ensures number { (n : ℕ) → n < 2 ^ 32 → number_of (word n) ≡ n }
-    ensures spelling { (message : List ℕ) → length message < 2 ^ 31
-        → IsSpellingOf message (word (2147483648 + length message) ++ message) }
+    ensures fragment { (last : Bool) (body : List ℕ) → length body < 2 ^ 31
+        → IsFragment last (record { header = word ((if last then 2147483648 else 0) + length body); body = body }) }
+    ensures number { (header : List ℕ) → length header ≡ 4 → ((i : ℕ) → slice_index header i < 256)
+        → word (number_of header) ≡ header }
 {}
