@@ -6,7 +6,8 @@ use Rattle.std.proofs.lemmas.Bool.Decides.{nat_tests}
 use Rattle.nm_rpc.specs.declared.phase.Phase.{Phase}
 use Rattle.nm_rpc.specs.declared.phase.Phase.TheVariants.{Header, Body, TooLong}
 use Rattle.nm_rpc.specs.Stream.{announced, is_last}
-use Rattle.nm_rpc.specs.Feeding.{RecordsNow, ended, settled, opened, grown, taken_in, taken, fed, open_at, back_to}
+use Rattle.nm_rpc.specs.Feeding.{RecordsNow, ended, settled, opened, grown, taken_in, taken, fed}
+use Rattle.nm_rpc.specs.Kept.{open_at, back_to}
 
 -- The mark lies in what is held, and what is taken back to it is `before`.
 record Covers (count bytes : ℕ) (before now : RecordsNow) : Type 0 where

@@ -1,5 +1,5 @@
 -- Where a stream stands after some of its bytes, one byte after the other.
-use Rattle.std.specs.Prelude.{◌≡◌, ℕ, ◌+◌, ◌-◌, ◌*◌, ◌^◌, ◌<◌, ◌≤◌, ◌==◌, Bool, true, false, nat_lt, List, [], ◌∷◌, ◌++◌, length, take, slice_index_or, Option, Some, None, Result, Ok, Err, if◌then◌else◌}
+use Rattle.std.specs.Prelude.{◌≡◌, ℕ, ◌+◌, ◌-◌, ◌*◌, ◌<◌, ◌≤◌, ◌==◌, Bool, true, false, nat_lt, List, [], ◌∷◌, ◌++◌, length, Option, Some, None, Result, Ok, Err, if◌then◌else◌}
 use Rattle.nm_rpc.specs.declared.fault.RecordFault.{RecordFault}
 use Rattle.nm_rpc.specs.declared.fault.RecordFault.TheVariants as told
 use Rattle.nm_rpc.specs.declared.phase.Phase.{Phase}
@@ -54,7 +54,7 @@ fed now (b ∷ bytes) = fed (taken now b) bytes
 
 -- ---- Where this is in the stream
 
--- Behind fragments that add `before` to the record comes this tail, less than a fragment: it is what the phase says, and `partial` is what has come of the record.
+-- A record's whole fragments so far have added `before` to it, and this tail has come behind them: less than a header; or a header whose fragment fits, and less than that fragment's bytes; or a header that announces more than fits, and whatever follows. `partial` is what has come of the record.
 abbrev pub Stands : ℕ → List ℕ → List ℕ → List ℕ → Phase → Type 0
 Stands limit before tail partial (Header number seen) = (length tail ≡ seen) × (number_of tail ≡ number) × (seen < 4) × (partial ≡ before)
 Stands limit before tail partial (Body left last) =
@@ -69,34 +69,6 @@ pub record IsAfter (stream : List ℕ) (given : List (List ℕ)) (now : RecordsN
   pub tail : List ℕ
   pub reaches : Reaches now.limit stream (given ++ now.waiting) before tail
   pub stands : Stands now.limit before tail now.partial now.phase
-
--- ---- What holds at every moment
-
--- Fewer than four bytes of a header have come, and their number is one of so many bytes.
-abbrev pub IsHeader : ℕ → ℕ → Type 0
-IsHeader number seen =
-    (seen < 4) × (number < 2 ^ 24) × (seen ≤ 2 → number < 2 ^ 16) × (seen ≤ 1 → number < 2 ^ 8) × (seen ≡ 0 → number ≡ 0)
-
--- A header has bytes to come, and a fragment has them too, with room for them in its record.
-abbrev pub IsWithin : ℕ → ℕ → Phase → Type 0
-IsWithin limit sum (Header number seen) = IsHeader number seen
-IsWithin limit sum (Body left last) = (0 < left) × (sum + left ≤ limit)
-IsWithin limit sum (TooLong got) = Unit {0}
-
--- What has come of a record is never more than the limit.
-pub record IsKept (limit : ℕ) (partial : List ℕ) (phase : Phase) : Type 0 where
-  pub room : length partial ≤ limit
-  pub within : IsWithin limit (length partial) phase
-
--- ---- Taking back
-
--- The record that was open when so many were waiting.
-abbrev pub open_at : RecordsNow → ℕ → List ℕ
-open_at now count = if nat_lt count (length now.waiting) then slice_index_or now.waiting count [] else now.partial
-
--- What came since then is taken back: so many records were waiting, so many bytes of the next had come, and this was what the next byte belonged to.
-abbrev pub back_to : ℕ → ℕ → Phase → RecordsNow → RecordsNow
-back_to count bytes phase now = record { limit = now.limit; waiting = take count now.waiting; partial = take bytes (open_at now count); phase = phase }
 
 -- ---- Calls
 

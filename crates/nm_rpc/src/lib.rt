@@ -7,8 +7,9 @@
 //! which a record would be longer than the limit; and a feed for which there is no memory leaves everything
 //! as it was.
 //!
-//! `specs/Stream` says what a fragment is, which bytes spell a record and how a stream splits into records.
-//! `specs/Feeding` says where a stream stands after some of its bytes.
+//! `specs/Stream` says what a fragment is, which bytes spell a record, how a stream splits into records and
+//! where it is too long. `specs/Feeding` says what is held after some of its bytes, and what that has to do
+//! with the stream.
 #![tactic(auto)]
 
 mod fault;

@@ -3,7 +3,8 @@
 ghost use Rattle.std.specs.Prelude.{◌≡◌, ℕ, ◌+◌, ◌-◌, ◌<◌, ◌≤◌, ◌^◌, List, [], ◌∷◌, ◌++◌, length, take, Some, Err, option_map, IfOk, OnOk, OnErr};
 ghost use Rattle.nm_xdr.specs.Items.{word};
 ghost use Rattle.nm_rpc.specs.Stream.{IsSpellingOf};
-ghost use Rattle.nm_rpc.specs.Feeding.{fresh, settled, opened, grown, taken_in, fed, IsHeader, IsKept, back_to, IsAfter, refusal_of, Feeds, counted, Gives};
+ghost use Rattle.nm_rpc.specs.Feeding.{fresh, settled, opened, grown, taken_in, fed, IsAfter, refusal_of, Feeds, counted, Gives};
+ghost use Rattle.nm_rpc.specs.Kept.{IsHeader, IsKept, back_to};
 ghost use Rattle.nm_rpc.specs.declared.fault.RecordFault.TheVariants.{TooLong};
 ghost use Rattle.std.specs.Option.{option_to_list};
 ghost use Rattle.nm_rpc.specs.declared.phase.Phase.TheVariants.{Header};
@@ -35,7 +36,8 @@ pub struct Records {
 }
 
 impl Model for Records {
-    ghost use Rattle.nm_rpc.specs.Feeding.{RecordsNow, IsKept};
+    ghost use Rattle.nm_rpc.specs.Feeding.{RecordsNow};
+    ghost use Rattle.nm_rpc.specs.Kept.{IsKept};
 
     ghost Value = { RecordsNow };
 
