@@ -1,0 +1,3 @@
+pub mod Stream
+pub mod Feeding
+pub mod Kept
