@@ -11,6 +11,7 @@ mod numbers;
 mod rows;
 mod status;
 mod table;
+mod wire;
 
 pub use action::{Action, CloseAction, OpenAction, Verb};
 pub use calls::{
@@ -27,3 +28,4 @@ pub use numbers::{Epoch, Era, FsNum, MoveNum, ServerNum};
 pub use rows::{FileRow, OpenRow};
 pub use status::OpStatus;
 pub use table::{HeldKind, HeldRow, HeldTable};
+pub use wire::{Handle, handles_are_read_as_written, stateids_are_read_as_written};
