@@ -1,2 +1,10 @@
 //! Records, calls and replies of RPC (RFC 5531).
 #![tactic(auto)]
+
+mod call_reading;
+mod calls;
+mod credentials;
+mod headers;
+
+pub use call_reading::read_call;
+pub use calls::{CallFault, CallHead, Service};
