@@ -234,11 +234,11 @@ Answers result given = (given ≡ result) ⊎ ((result ≡ Err Memory) × WantsM
 
 -- ---- Writing
 
--- A call without a name has no uid and no machine. A machine has at most 255 bytes.
+-- A call that can be written has flavor 0, no uid and no machine, or flavor 1 and a machine of at most 255 bytes.
 abbrev pub has_spelling : CallHead → Bool
 has_spelling head =
-    ((head.principal.flavor == 0) && (head.principal.uid == 0) && (length head.machine == 0))
-    || ((head.principal.flavor == 1) && nat_le (length head.machine) 255)
+    if head.principal.flavor == 0 then (head.principal.uid == 0) && (length head.machine == 0)
+    else (head.principal.flavor == 1) && nat_le (length head.machine) 255
 
 -- The credential that is written: stamp and gid are 0, and there are no gids.
 unfoldable pub credential : CallHead → List ℕ

@@ -2,9 +2,11 @@
 #![tactic(auto)]
 
 mod call_reading;
+mod call_writing;
 mod calls;
 mod credentials;
 mod headers;
 
 pub use call_reading::read_call;
+pub use call_writing::write_call;
 pub use calls::{CallFault, CallHead, Service};
