@@ -1,2 +1,3 @@
 pub mod Passing
 pub mod Lengths
+pub mod Ends

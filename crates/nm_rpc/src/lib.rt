@@ -6,7 +6,9 @@ mod call_writing;
 mod calls;
 mod credentials;
 mod headers;
+mod replies;
 
 pub use call_reading::read_call;
 pub use call_writing::write_call;
 pub use calls::{CallFault, CallHead, Service};
+pub use replies::{ReplyHead, ReplyOutcome, read_reply, write_refusal, write_reply};
