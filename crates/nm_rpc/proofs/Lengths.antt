@@ -1,10 +1,10 @@
 -- How long spellings are.
-use Rattle.std.proofs.Common.{◌≡◌, ℕ, ◌+◌, ◌-◌, ◌%◌, ◌^◌, ◌≤◌, ◌<◌, Bool, true, false, cond, eqb, leb, ◌&&◌, ◌||◌, List, [], ◌∷◌, ◌++◌, length, replicate, refl, sym, ap, ◌∙◌, arith}
+use Rattle.std.proofs.Common.{◌≡◌, ℕ, ◌+◌, ◌≤◌, ◌<◌, Bool, true, false, cond, eqb, leb, ◌&&◌, List, [], ◌++◌, length, replicate, refl, arith}
 use Rattle.std.proofs.lemmas.Bool.Decides.{nat_tests}
 use Rattle.std.proofs.lemmas.List.{length-append, length-replicate}
-use Rattle.nm_xdr.specs.Items.{word, padding_of, fixed, opaque, counted, structure}
+use Rattle.nm_xdr.specs.Items.{word, padding_of, fixed, opaque}
 use Rattle.nm_rpc.specs.declared.calls.CallHead.{CallHead}
-use Rattle.nm_rpc.specs.Messages.{SysCredential, sys_credential, has_spelling, credential}
+use Rattle.nm_rpc.specs.Messages.{sys_credential, has_spelling, credential}
 
 pub word_length : (n : ℕ) → length (word n) ≡ 4
 unfolding word
@@ -34,7 +34,7 @@ sys_length machine uid h = simp (length-append, word_length) (omega (arith, opaq
 by_numbers : (flavor uid n : ℕ) → cond (eqb flavor 0) (eqb uid 0 && eqb n 0) (eqb flavor 1 && leb n 255) ≡ true → n ≤ 255
 by_numbers flavor uid n e = grind (arith, nat_tests)
 
-machine_fits : (head : CallHead) → has_spelling head ≡ true → length head.machine ≤ 255
+pub machine_fits : (head : CallHead) → has_spelling head ≡ true → length head.machine ≤ 255
 machine_fits head e = by_numbers head.principal.flavor head.principal.uid (length head.machine) e
 
 -- A credential that is written fits into a header.

@@ -1,6 +1,6 @@
 -- Items that are passed over are read all the same.
-use Rattle.std.proofs.Common.{◌≡◌, ℕ, zero, suc, ◌+◌, ◌-◌, ◌≤◌, ◌<◌, List, [], ◌∷◌, ◌++◌, length, Option, Some, None, Result, Ok, Err, refl, sym, ap, ◌∙◌, arith}
-use Rattle.nm_xdr.specs.Fields.{Fault, Reading, ◌>>=◌, field, made, rows_at, ended, all_of}
+use Rattle.std.proofs.Common.{◌≡◌, ℕ, zero, suc, ◌+◌, ◌-◌, ◌≤◌, ◌<◌, List, [], ◌∷◌, ◌++◌, length, Option, Some, None, Result, Ok, Err, refl, ap, ◌∙◌, arith}
+use Rattle.nm_xdr.specs.Fields.{Fault, Reading, ◌>>=◌, made, rows_at, ended, all_of}
 use Rattle.nm_xdr.specs.Items.{word_at, opaque_at}
 use Rattle.nm_xdr.proofs.FieldLaws.{rows_next, rows_fault, rows_done}
 use Rattle.nm_rpc.specs.Messages.{SysCredential, Caller, passed, pass, gids_at, sys_credential_at, sys_caller, sys_caller_at, sys_caller_of}

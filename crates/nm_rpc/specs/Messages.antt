@@ -1,5 +1,5 @@
 -- Calls of RPC (RFC 5531, sections 8.2 and 9): their layout, and what is read of any bytes.
-use Rattle.std.specs.Prelude.{◌≡◌, ℕ, ◌-◌, ◌≤◌, ◌<◌, ◌^◌, Bool, false, ◌==◌, ◌&&◌, ◌||◌, not, nat_le, nat_lt, List, [], ◌∷◌, ◌++◌, length, drop, find, Option, Some, None, Result, Ok, Err, ◌⊎◌, if◌then◌else◌}
+use Rattle.std.specs.Prelude.{◌≡◌, ℕ, ◌-◌, ◌≤◌, ◌<◌, ◌^◌, Bool, false, ◌==◌, ◌&&◌, not, nat_le, nat_lt, List, [], ◌∷◌, ◌++◌, length, drop, find, All, Option, Some, None, Result, Ok, Err, ◌⊎◌, if◌then◌else◌}
 use Rattle.nm_xdr.specs.Fields.{short, Fault, Reading, fault_at, field, made, all_of}
 use Rattle.nm_xdr.specs.Items.{word, opaque, counted, structure, word_at, opaque_at, counted_at}
 use Rattle.nm_rules.specs.declared.instance.Principal.{Principal}
@@ -264,3 +264,65 @@ header_of head = record {
 -- A call with its body. The place in the head isn't written.
 unfoldable pub call : CallHead → List ℕ → List ℕ
 call head body = header (header_of head) ++ body
+
+-- ---- What a call is, apart from how it is read
+
+-- The numbers are words, the machine's name has at most 255 bytes, and there are at most 16 gids.
+pub record IsSysCredential (s : SysCredential) : Type 0 where
+  pub stamp : s.stamp < 2 ^ 32
+  pub machine : length s.machine ≤ 255
+  pub uid : s.uid < 2 ^ 32
+  pub gid : s.gid < 2 ^ 32
+  pub count : length s.gids ≤ 16
+  pub gids : All (λ n. n < 2 ^ 32) s.gids
+
+-- A credential of this flavor names this caller: that of AUTH_NONE nobody, whatever its bytes are, and that of AUTH_SYS
+-- whom it spells, with any stamp, gid and gids.
+abbrev pub Names : ℕ → List ℕ → Caller → Type 0
+Names flavor credential caller =
+    ((flavor ≡ 0) × (caller ≡ nobody))
+    ⊎ ((flavor ≡ 1) × ((s : SysCredential) × IsSysCredential s × (credential ≡ sys_credential s) × (caller ≡ sys_caller s)))
+
+-- The numbers are words, and credential and verifier have at most 400 bytes each.
+pub record IsHeader (h : CallHeader) : Type 0 where
+  pub xid : h.xid < 2 ^ 32
+  pub kind : h.kind < 2 ^ 32
+  pub rpc_version : h.rpc_version < 2 ^ 32
+  pub program : h.program < 2 ^ 32
+  pub version : h.version < 2 ^ 32
+  pub procedure : h.procedure < 2 ^ 32
+  pub flavor : h.flavor < 2 ^ 32
+  pub credential : length h.credential ≤ 400
+  pub verifier_flavor : h.verifier_flavor < 2 ^ 32
+  pub verifier : length h.verifier ≤ 400
+
+-- There is a service of the program with this version, up to this procedure or one behind it.
+pub record IsServed (services : List Service) (program version procedure : ℕ) : Type 0 where
+  pub service : Service
+  pub found : service_of services program ≡ Some service
+  pub same : service.version ≡ version
+  pub within : procedure ≤ service.greatest
+
+-- These bytes are a call with this head: the items of a header, with any verifier, and the body behind them.
+pub record IsCall (services : List Service) (head : CallHead) (bytes : List ℕ) : Type 0 where
+  pub items : CallHeader
+  pub body : List ℕ
+  pub spelled : bytes ≡ header items ++ body
+  pub fits : IsHeader items
+  pub kind : items.kind ≡ 0
+  pub rpc_version : items.rpc_version ≡ 2
+  pub xid : items.xid ≡ head.xid
+  pub program : items.program ≡ head.program
+  pub version : items.version ≡ head.version
+  pub procedure : items.procedure ≡ head.procedure
+  pub caller : Names items.flavor items.credential (record { principal = head.principal; machine = head.machine })
+  pub served : IsServed services head.program head.version head.procedure
+  pub place : length (header items) ≡ head.body
+
+-- The numbers of a head are words.
+pub record IsHead (head : CallHead) : Type 0 where
+  pub xid : head.xid < 2 ^ 32
+  pub program : head.program < 2 ^ 32
+  pub version : head.version < 2 ^ 32
+  pub procedure : head.procedure < 2 ^ 32
+  pub uid : head.principal.uid < 2 ^ 32

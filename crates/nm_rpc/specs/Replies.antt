@@ -1,5 +1,5 @@
 -- Replies of RPC (RFC 5531, 9): their layout, and what is read of any bytes.
-use Rattle.std.specs.Prelude.{◌≡◌, ◌≢◌, ℕ, ◌-◌, ◌≤◌, ◌<◌, ◌^◌, Bool, ◌==◌, nat_le, List, [], ◌∷◌, ◌++◌, length, Option, Some, None, Result, Ok, Err, if◌then◌else◌}
+use Rattle.std.specs.Prelude.{◌≡◌, ◌≢◌, ℕ, ◌-◌, ◌≤◌, ◌<◌, ◌^◌, ◌==◌, nat_le, List, [], ◌∷◌, ◌++◌, length, Option, Some, None, Result, Ok, Err, if◌then◌else◌}
 use Rattle.nm_xdr.specs.declared.fault.XdrFault.{XdrFault}
 use Rattle.nm_xdr.specs.Fields.{enum, Fault, Reading, ◌>>=◌, field, made, tested, ended}
 use Rattle.nm_xdr.specs.Items.{word, opaque, structure, word_at, opaque_at}
@@ -33,11 +33,15 @@ accepted xid stat = structure (word xid ∷ word 1 ∷ word 0 ∷ word 0 ∷ opa
 unfoldable pub denied : ℕ → ℕ → List ℕ
 denied xid stat = structure (word xid ∷ word 1 ∷ word 1 ∷ word stat ∷ [])
 
+-- the lowest and the highest version
+abbrev pub versions : ℕ → ℕ → List ℕ
+versions low high = structure (word low ∷ word high ∷ [])
+
 unfoldable pub reply : ℕ → Reply → List ℕ
 reply xid (done body) = accepted xid 0 ++ body
 reply xid (undone stat) = accepted xid stat
-reply xid (other_versions low high) = (accepted xid 2 ++ word low) ++ word high
-reply xid (other_rpc low high) = (denied xid 0 ++ word low) ++ word high
+reply xid (other_versions low high) = accepted xid 2 ++ versions low high
+reply xid (other_rpc low high) = denied xid 0 ++ versions low high
 reply xid (unknown_caller why) = denied xid 1 ++ word why
 
 -- ---- Reading
@@ -112,3 +116,60 @@ refusal Memory = None
 abbrev pub spelled : Option (ℕ × Reply) → Option (List ℕ)
 spelled None = None
 spelled (Some r) = Some (reply r.0 r.1)
+
+-- ---- What a reply is, apart from how it is read
+
+-- What can be said: the numbers are words.
+abbrev pub IsSaid : Reply → Type 0
+IsSaid (done body) = Unit {0}
+IsSaid (undone stat) = (stat < 2 ^ 32) × (stat ≢ 0) × (stat ≢ 2)
+IsSaid (other_versions low high) = (low < 2 ^ 32) × (high < 2 ^ 32)
+IsSaid (other_rpc low high) = (low < 2 ^ 32) × (high < 2 ^ 32)
+IsSaid (unknown_caller why) = why < 2 ^ 32
+
+-- What is told of it: the body stands behind 24 bytes.
+abbrev pub outcome_of : Reply → ReplyOutcome
+outcome_of (done body) = Success 24
+outcome_of (undone stat) = Accepted stat
+outcome_of (other_versions low high) = Accepted 2
+outcome_of (other_rpc low high) = Denied 0
+outcome_of (unknown_caller why) = Denied 1
+
+-- These bytes are a reply with this head.
+pub record IsReply (head : ReplyHead) (bytes : List ℕ) : Type 0 where
+  pub said : Reply
+  pub fits : IsSaid said
+  pub xid : head.xid < 2 ^ 32
+  pub spelled : bytes ≡ reply head.xid said
+  pub outcome : outcome_of said ≡ head.outcome
+
+-- The numbers of a fault are words.
+abbrev pub HasWords : CallFault → Type 0
+HasWords NotCall = Unit {0}
+HasWords (RpcVersion xid) = xid < 2 ^ 32
+HasWords (Auth xid) = xid < 2 ^ 32
+HasWords (Program xid) = xid < 2 ^ 32
+HasWords (Version xid low high) = (xid < 2 ^ 32) × (low < 2 ^ 32) × (high < 2 ^ 32)
+HasWords (Proc xid) = xid < 2 ^ 32
+HasWords (Garbage xid at) = xid < 2 ^ 32
+HasWords Memory = Unit {0}
+
+-- What the caller is told of a fault, where it is answered.
+abbrev pub told : CallFault → Option ReplyHead
+told NotCall = None
+told (RpcVersion xid) = Some (record { xid = xid; outcome = Denied 0 })
+told (Auth xid) = Some (record { xid = xid; outcome = Denied 1 })
+told (Program xid) = Some (record { xid = xid; outcome = Accepted 1 })
+told (Version xid low high) = Some (record { xid = xid; outcome = Accepted 2 })
+told (Proc xid) = Some (record { xid = xid; outcome = Accepted 3 })
+told (Garbage xid at) = Some (record { xid = xid; outcome = Accepted 4 })
+told Memory = None
+
+-- what is read of a reply, where there is one
+abbrev pub read_of : Option (ℕ × Reply) → Option (Result ReplyHead Fault)
+read_of None = None
+read_of (Some r) = Some (reply_of (reply r.0 r.1))
+
+abbrev pub read_head : Option ReplyHead → Option (Result ReplyHead Fault)
+read_head None = None
+read_head (Some head) = Some (Ok head)

@@ -1,4 +1,4 @@
-use Rattle.std.proofs.Common.{sym, ◌∙◌, arith, ◌+◌, ◌-◌}
+use Rattle.std.proofs.Common.{sym, ◌∙◌}
 use Rattle.nm_rpc.proofs.Passing.{word_passed, words_passed}
 use Rattle.nm_rpc.proofs.credentials.pass_words.Goals as goal
 
