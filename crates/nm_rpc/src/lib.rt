@@ -7,6 +7,10 @@ mod calls;
 mod credentials;
 mod headers;
 mod message_laws;
+#[cfg(test)]
+mod message_tests;
+#[cfg(test)]
+mod name_tests;
 mod replies;
 
 pub use call_reading::read_call;
