@@ -33,6 +33,9 @@ field_again : {A Y : Type 0} {read : Reading A} {spell : A → List ℕ} {Fits :
 field_again {A} {Y} {read} {spell} item more a tail rest fits =
     ap (λ (b : List ℕ). field read more b) (append_assoc (spell a) tail rest) ∙ ap (λ (r : Result (A × List ℕ) Fault). r >>= λ x. more x.0 x.1) (item.again a (tail ++ rest) fits)
 
+one_small : 1 ≤ 1
+one_small = omega arith
+
 two_small : 2 < 2 ^ 32
 two_small = omega arith
 
@@ -98,7 +101,7 @@ said_again xid (unknown_caller why) x f =
     let read : field word_at (λ (w : ℕ). made (record { xid = xid; outcome = Denied 1 })) (word why) ≡ Ok (record { xid = xid; outcome = Denied 1 }, []) =
     ap (field word_at (λ (w : ℕ). made (record { xid = xid; outcome = Denied 1 }))) (sym (append-nil (word why)))
     ∙ ap (λ (r : Result (ℕ × List ℕ) Fault). r >>= λ w. made (record { xid = xid; outcome = Denied 1 }) w.1) (word_item.again why [] f) in
-    whole_again all (denied xid 1) (word why) (record { xid = xid; outcome = Denied 1 }, []) _ refl (denied_again (length all) xid 1 (word why) x (omega arith) ∙ read) refl
+    whole_again all (denied xid 1) (word why) (record { xid = xid; outcome = Denied 1 }, []) _ refl (denied_again (length all) xid 1 (word why) x one_small ∙ read) refl
 
 -- What is a reply is read.
 pub reply_again : (head : ReplyHead) (bytes : List ℕ) → IsReply head bytes → reply_of bytes ≡ Ok head
@@ -245,6 +248,13 @@ empty : (xs : List ℕ) → length xs ≤ 0 → xs ≡ []
 empty [] e = refl
 empty (x ∷ xs) e = absurd (omega (arith, e))
 
+-- a verifier without bytes, and what is behind it
+verifier_first : (bytes a b c : List ℕ) (flavor : ℕ) (verifier : List ℕ) → bytes ≡ word flavor ++ a → flavor ≡ 0 → a ≡ opaque verifier ++ b → length verifier ≤ 0 → b ≡ c
+    → bytes ≡ word 0 ++ (opaque [] ++ c)
+verifier_first bytes a b c flavor verifier first none second short third =
+    first ∙ ap (λ (n : ℕ). word n ++ a) none ∙ ap (λ (r : List ℕ). word 0 ++ r) second ∙ ap (λ (v : List ℕ). word 0 ++ (opaque v ++ b)) (empty verifier short)
+    ∙ ap (λ (r : List ℕ). word 0 ++ (opaque [] ++ r)) third
+
 verified : (total xid : ℕ) (bytes : List ℕ) (head : ReplyHead) → IsBytes bytes → closing (accepted_at total xid bytes) ≡ Ok head → Verified total xid bytes head
 unfolding accepted_at
 verified total xid bytes head are e =
@@ -256,8 +266,7 @@ verified total xid bytes head are e =
       after = t.after;
       fits = t.fits;
       are_bytes = t.are_bytes;
-      spelled = f.spelled ∙ ap (λ (n : ℕ). word n ++ f.after) f.fits
-          ∙ ap (λ (b : List ℕ). word 0 ++ b) (v.spelled ∙ ap (λ (b : List ℕ). opaque b ++ v.after) (empty v.value v.fits) ∙ ap (λ (b : List ℕ). opaque [] ++ b) t.spelled);
+      spelled = verifier_first bytes f.after v.after (word t.value ++ t.after) f.value v.value f.spelled f.fits v.spelled v.fits t.spelled;
       went = t.went;
     }
 
@@ -287,6 +296,11 @@ record Started (total : ℕ) (bytes : List ℕ) (head : ReplyHead) : Type 0 wher
   spelled : bytes ≡ word xid ++ (word 1 ++ (word stat ++ after))
   went : closing (cond (eqb stat 0) (accepted_at total xid) (denied_at xid) after) ≡ Ok head
 
+-- the xid, the kind of message, and what is behind them
+kind_first : (bytes a b c : List ℕ) (xid kind : ℕ) → bytes ≡ word xid ++ a → a ≡ word kind ++ b → kind ≡ 1 → b ≡ c → bytes ≡ word xid ++ (word 1 ++ c)
+kind_first bytes a b c xid kind first second one third =
+    first ∙ ap (λ (r : List ℕ). word xid ++ r) second ∙ ap (λ (n : ℕ). word xid ++ (word n ++ b)) one ∙ ap (λ (r : List ℕ). word xid ++ (word 1 ++ r)) third
+
 started : (total : ℕ) (bytes : List ℕ) (head : ReplyHead) → IsBytes bytes → closing (reply_at total bytes) ≡ Ok head → Started total bytes head
 unfolding reply_at
 started total bytes head are e =
@@ -300,7 +314,7 @@ started total bytes head are e =
       fits = x.fits;
       choice = s.fits;
       are_bytes = s.are_bytes;
-      spelled = x.spelled ∙ ap (λ (b : List ℕ). word x.value ++ b) (k.spelled ∙ ap (λ (n : ℕ). word n ++ k.after) k.fits ∙ ap (λ (b : List ℕ). word 1 ++ b) s.spelled);
+      spelled = kind_first bytes x.after k.after (word s.value ++ s.after) x.value k.value x.spelled k.spelled k.fits s.spelled;
       went = s.went;
     }
 

@@ -11,6 +11,8 @@ use std::alloc::Global;
 /// Writes a call with its body (RFC 5531, 9): its credential of AUTH_NONE, without a name, or of AUTH_SYS, with stamp 0,
 /// gid 0 and no gids, and an empty verifier. The head's `body` isn't looked at: where the call is read, it is the place
 /// after the header.
+///
+/// The head has flavor 0 with uid 0 and no machine, or flavor 1 with a machine of at most 255 bytes.
 #[tactic(auto, using(crate::proofs::Lengths::credential_fits), unfolding(crate::specs::Messages::call))]
 pub fn write_call(alloc: Global, head: &CallHead, body: &[u8]) -> Result<Vec<u8>, Memory>
     requires { has_spelling head.now ≡ true }

@@ -1,5 +1,5 @@
 //! Replies, read and written.
-ghost use Rattle.std.specs.Prelude.{◌≡◌, ◌++◌, ◌==◌, nat_le, IfOk, OnOk, ℕ};
+ghost use Rattle.std.specs.Prelude.{◌≡◌, ◌++◌, ◌==◌, nat_le, IfOk, OnOk, OnErr, IsSome, ℕ};
 ghost use Rattle.std.specs.Option.{option_map};
 ghost use Rattle.nm_xdr.specs.Places.{Gives, end_of};
 ghost use Rattle.nm_rpc.specs.Replies.{done, undone, other_versions, other_rpc, unknown_caller, accepted, denied, reply, only_at, choice_at, accepted_as, accepted_at, denied_as, denied_at, reply_at, AnswersReply, refusal, spelled};
@@ -166,10 +166,12 @@ pub fn write_reply(alloc: Global, xid: u32, body: &[u8]) -> Result<Vec<u8>, Memo
     Ok(bytes)
 }
 
-/// Writes the reply to a call that is refused. None exactly for NotCall and Memory, to which nothing is answered.
+/// Writes the reply to a call that is refused. None exactly for NotCall and Memory, to which nothing is answered, and for
+/// which it takes no memory.
 #[tactic(auto, unfolding(crate::specs::Replies::refusal, crate::specs::Replies::reply))]
 pub fn write_refusal(alloc: Global, fault: &CallFault) -> Result<Option<Vec<u8>>, Memory>
-    ensures { IfOk result (λ written. option_map (λ bytes. bytes.items) written ≡ spelled (refusal fault.now)) }
+    ensures value { IfOk result (λ written. option_map (λ bytes. bytes.items) written ≡ spelled (refusal fault.now)) }
+    ensures memory { OnErr result (IsSome (refusal fault.now)) }
 {
     let mut writer = Writer::new(alloc);
     let put = match *fault {
