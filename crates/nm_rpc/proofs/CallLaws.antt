@@ -206,7 +206,7 @@ credential_bytes h rest fits =
     let b28 = IsBytes-behind (word h.flavor) _ b24 in
     IsBytes-opaque h.credential (IsBytes-front (opaque h.credential) _ b28)
 
-place_found : (front rest bytes : List ℕ) → bytes ≡ front ++ rest → length front ≡ length bytes - length rest
+pub place_found : (front rest bytes : List ℕ) → bytes ≡ front ++ rest → length front ≡ length bytes - length rest
 place_found front rest bytes e = omega (arith, ap length e, length-append front rest)
 
 call_told : (services : List Service) (head : CallHead) (bytes : List ℕ) → IsBytes bytes → (p : Passed services bytes head) → Told bytes p.xid p.caller head
@@ -243,11 +243,11 @@ call_found services head bytes fits e =
 
 -- ---- And the other way round
 
-kind_again : (h : CallHeader) (bytes : List ℕ) → Stands h bytes → h.kind ≡ 0 → call_id bytes ≡ Ok h.xid
+pub kind_again : (h : CallHeader) (bytes : List ℕ) → Stands h bytes → h.kind ≡ 0 → call_id bytes ≡ Ok h.xid
 unfolding call_id
 kind_again h bytes at kind = rw (at.xid, at.kind, kind) refl
 
-rpc_again : (h : CallHeader) (bytes : List ℕ) (xid : ℕ) → Stands h bytes → h.rpc_version ≡ 2 → rpc_checked xid bytes ≡ Ok (tt {0})
+pub rpc_again : (h : CallHeader) (bytes : List ℕ) (xid : ℕ) → Stands h bytes → h.rpc_version ≡ 2 → rpc_checked xid bytes ≡ Ok (tt {0})
 unfolding rpc_checked
 rpc_again h bytes xid at rpc = rw (at.rpc_version, rpc) refl
 
@@ -262,7 +262,7 @@ unfolding service_checked
 service_again services h bytes xid at served =
     rw (at.program, at.version, at.procedure) (served_again services xid h.program h.version h.procedure served)
 
-head_again : (h : CallHeader) (rest : List ℕ) (xid : ℕ) (caller : Caller) → IsHeader h
+pub head_again : (h : CallHeader) (rest : List ℕ) (xid : ℕ) (caller : Caller) → IsHeader h
     → head_checked xid (Some caller) (header h ++ rest) ≡ Ok (record {
       xid = xid;
       program = h.program;

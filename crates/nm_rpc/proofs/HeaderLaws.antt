@@ -44,7 +44,7 @@ item_item {X} {read} {spell} {Fits} i = record {
   again = λ x rest fits. rw (i.again x rest fits) refl;
 }
 
-auth_item : IsItem auth_at opaque (λ bytes. length bytes ≤ 400)
+pub auth_item : IsItem auth_at opaque (λ bytes. length bytes ≤ 400)
 unfolding auth_at
 auth_item = item_item (opaque_item 400 (omega arith))
 

@@ -5,3 +5,6 @@ pub mod HeaderLaws
 pub mod CallLaws
 pub mod WrittenCalls
 pub mod ReplyLaws
+pub mod CutHeaders
+pub mod RefusedCalls
+pub mod CutCalls

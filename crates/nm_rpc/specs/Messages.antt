@@ -1,5 +1,5 @@
 -- Calls of RPC (RFC 5531, sections 8.2 and 9): their layout, and what is read of any bytes.
-use Rattle.std.specs.Prelude.{◌≡◌, ℕ, ◌-◌, ◌≤◌, ◌<◌, ◌^◌, Bool, false, ◌==◌, ◌&&◌, not, nat_le, nat_lt, List, [], ◌∷◌, ◌++◌, length, drop, find, All, Option, Some, None, Result, Ok, Err, ◌⊎◌, if◌then◌else◌}
+use Rattle.std.specs.Prelude.{◌≡◌, ℕ, ◌+◌, ◌-◌, ◌≤◌, ◌<◌, ◌^◌, Bool, false, ◌==◌, ◌&&◌, not, nat_le, nat_lt, List, [], ◌∷◌, ◌++◌, length, drop, find, All, Option, Some, None, Result, Ok, Err, ◌⊎◌, if◌then◌else◌}
 use Rattle.nm_xdr.specs.Fields.{short, Fault, Reading, fault_at, field, made, all_of}
 use Rattle.nm_xdr.specs.Items.{word, opaque, counted, structure, word_at, opaque_at, counted_at}
 use Rattle.nm_rules.specs.declared.instance.Principal.{Principal}
@@ -84,10 +84,14 @@ pub record CallHeader : Type 0 where
   pub verifier_flavor : ℕ
   pub verifier : List ℕ
 
-unfoldable pub header : CallHeader → List ℕ
-header h = structure (
+-- its items, spelled
+abbrev pub parts : CallHeader → List (List ℕ)
+parts h =
     word h.xid ∷ word h.kind ∷ word h.rpc_version ∷ word h.program ∷ word h.version ∷ word h.procedure
-    ∷ word h.flavor ∷ opaque h.credential ∷ word h.verifier_flavor ∷ opaque h.verifier ∷ [])
+    ∷ word h.flavor ∷ opaque h.credential ∷ word h.verifier_flavor ∷ opaque h.verifier ∷ []
+
+unfoldable pub header : CallHeader → List ℕ
+header h = structure (parts h)
 
 -- What is wrong in an item of a header doesn't matter: it is missing from its first byte on.
 abbrev pub item_or_missing : {X : Type 0} → List ℕ → Result (X × List ℕ) Fault → Result (X × List ℕ) Fault
@@ -326,3 +330,39 @@ pub record IsHead (head : CallHead) : Type 0 where
   pub version : head.version < 2 ^ 32
   pub procedure : head.procedure < 2 ^ 32
   pub uid : head.principal.uid < 2 ^ 32
+
+-- ---- What is refused, by the items of a header
+
+-- The answer to a header that is all there, with its body behind it.
+abbrev pub judged_by : CallHeader → Option Caller → Option Service → Result CallHead CallFault
+judged_by h None service = Err (Auth h.xid)
+judged_by h (Some caller) None = Err (Program h.xid)
+judged_by h (Some caller) (Some s) =
+    if not (h.version == s.version) then Err (Version h.xid s.version s.version)
+    else if nat_lt s.greatest h.procedure then Err (Proc h.xid)
+    else Ok (record {
+      xid = h.xid;
+      program = h.program;
+      version = h.version;
+      procedure = h.procedure;
+      principal = caller.principal;
+      machine = caller.machine;
+      body = length (header h);
+    })
+
+unfoldable pub judged : List Service → CallHeader → Result CallHead CallFault
+judged services h =
+    if not (h.kind == 0) then Err NotCall
+    else if not (h.rpc_version == 2) then Err (RpcVersion h.xid)
+    else judged_by h (caller_in h.flavor h.credential) (service_of services h.program)
+
+-- Bytes end within one of these items, and it begins at this place: those before it are all there, and of it there is less
+-- than all.
+pub record EndsWithin (items : List (List ℕ)) (bytes : List ℕ) (place : ℕ) : Type 0 where
+  pub before : List (List ℕ)
+  pub cut : List ℕ
+  pub behind : List (List ℕ)
+  pub split : items ≡ before ++ cut ∷ behind
+  pub is_place : place ≡ length (structure before)
+  pub begun : place ≤ length bytes
+  pub ended : length bytes < place + length cut

@@ -25,7 +25,7 @@ pub use call_reading::read_call;
 pub use call_writing::write_call;
 pub use calls::{CallFault, CallHead, Service};
 pub use message_laws::{
-    calls_are_read_as_spelled, calls_are_read_as_written, replies_are_read_as_spelled,
-    replies_are_read_as_written,
+    calls_are_judged_by_their_items, calls_are_read_as_spelled, calls_are_read_as_written,
+    cut_calls_are_garbage, replies_are_read_as_spelled, replies_are_read_as_written,
 };
 pub use replies::{ReplyHead, ReplyOutcome, read_reply, write_refusal, write_reply};
