@@ -1,3 +1,5 @@
-pub mod Stream
 pub mod Feeding
 pub mod Kept
+pub mod Messages
+pub mod Replies
+pub mod Stream

@@ -12,3 +12,4 @@ pub mod Seqids
 pub mod Shares
 pub mod Sound
 pub mod Statuses
+pub mod Wire
