@@ -110,21 +110,21 @@ pub items_stand : (h : CallHeader) (rest : List ℕ) → IsHeader h → Stands h
 unfolding header
 items_stand h rest f =
     let bytes : List ℕ = header h ++ rest in
-    let d0 : drop 0 bytes ≡ header h ++ rest = refl in
-    let d4 = behind_word 0 h.xid _ rest bytes d0 in
-    let d8 = behind_word 4 h.kind _ rest bytes d4 in
-    let d12 = behind_word 8 h.rpc_version _ rest bytes d8 in
-    let d16 = behind_word 12 h.program _ rest bytes d12 in
-    let d20 = behind_word 16 h.version _ rest bytes d16 in
-    let d24 = behind_word 20 h.procedure _ rest bytes d20 in
-    let d28 = behind_word 24 h.flavor _ rest bytes d24 in
+    let from_0 : drop 0 bytes ≡ header h ++ rest = refl in
+    let from_4 = behind_word 0 h.xid _ rest bytes from_0 in
+    let from_8 = behind_word 4 h.kind _ rest bytes from_4 in
+    let from_12 = behind_word 8 h.rpc_version _ rest bytes from_8 in
+    let from_16 = behind_word 12 h.program _ rest bytes from_12 in
+    let from_20 = behind_word 16 h.version _ rest bytes from_16 in
+    let from_24 = behind_word 20 h.procedure _ rest bytes from_20 in
+    let from_28 = behind_word 24 h.flavor _ rest bytes from_24 in
     record {
-      xid = word_found 0 h.xid _ rest bytes f.xid d0;
-      kind = word_found 4 h.kind _ rest bytes f.kind d4;
-      rpc_version = word_found 8 h.rpc_version _ rest bytes f.rpc_version d8;
-      program = word_found 12 h.program _ rest bytes f.program d12;
-      version = word_found 16 h.version _ rest bytes f.version d16;
-      procedure = word_found 20 h.procedure _ rest bytes f.procedure d20;
-      flavor = word_found 24 h.flavor _ rest bytes f.flavor d24;
-      credential = auth_found 28 h.credential _ rest bytes f.credential d28;
+      xid = word_found 0 h.xid _ rest bytes f.xid from_0;
+      kind = word_found 4 h.kind _ rest bytes f.kind from_4;
+      rpc_version = word_found 8 h.rpc_version _ rest bytes f.rpc_version from_8;
+      program = word_found 12 h.program _ rest bytes f.program from_12;
+      version = word_found 16 h.version _ rest bytes f.version from_16;
+      procedure = word_found 20 h.procedure _ rest bytes f.procedure from_20;
+      flavor = word_found 24 h.flavor _ rest bytes f.flavor from_24;
+      credential = auth_found 28 h.credential _ rest bytes f.credential from_28;
     }
