@@ -8,7 +8,7 @@ use Rattle.nm_rpc.specs.declared.calls.CallHead.{CallHead}
 use Rattle.nm_rpc.specs.declared.calls.CallFault.{CallFault}
 use Rattle.nm_rpc.specs.declared.calls.CallFault.TheVariants.{NotCall, RpcVersion, Auth, Program, Version, Proc, Garbage, Memory}
 
--- ---- Credentials (8.2)
+-- ---- Credentials (8.2, and AUTH_SYS in appendix A)
 
 -- A credential of AUTH_SYS.
 pub record SysCredential : Type 0 where

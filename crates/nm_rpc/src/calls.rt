@@ -38,7 +38,7 @@ pub enum CallFault {
         xid: u32,
     },
     /// The flavor of the credential is neither 0 (AUTH_NONE) nor 1 (AUTH_SYS), or a credential of AUTH_SYS isn't of its
-    /// layout (RFC 5531, 8.2).
+    /// layout (RFC 5531, appendix A).
     Auth {
         xid: u32,
     },

@@ -1,4 +1,4 @@
-//! Who calls: the credentials of AUTH_NONE and AUTH_SYS (RFC 5531, 8.2).
+//! Who calls: the credentials of AUTH_NONE and AUTH_SYS (RFC 5531, 8.2 and appendix A).
 ghost use Rattle.std.specs.Prelude.{◌≡◌, []};
 ghost use Rattle.std.specs.Option.{option_map};
 ghost use Rattle.nm_xdr.specs.Fields.{rows_at, all_of};
