@@ -5,3 +5,4 @@ pub mod OpenRows
 pub mod OwnerLemmas
 pub mod PartyLemmas
 pub mod ShareLaws
+pub mod WireLaws

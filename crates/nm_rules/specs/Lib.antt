@@ -13,3 +13,4 @@ pub mod Seqids
 pub mod Shares
 pub mod Sound
 pub mod Statuses
+pub mod Wire

@@ -13,6 +13,7 @@ mod status;
 mod table;
 #[cfg(test)]
 mod tests;
+mod wire;
 
 pub use action::{Action, CloseAction, OpenAction, Verb};
 pub use calls::{
@@ -29,3 +30,4 @@ pub use numbers::{Epoch, Era, FsNum, MoveNum, ServerNum};
 pub use rows::{FileRow, OpenRow};
 pub use status::OpStatus;
 pub use table::{HeldKind, HeldRow, HeldTable};
+pub use wire::{Handle, handles_are_read_as_written, stateids_are_read_as_written};

@@ -1,0 +1,5 @@
+pub mod Feeding
+pub mod Kept
+pub mod Messages
+pub mod Replies
+pub mod Stream
