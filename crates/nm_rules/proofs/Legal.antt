@@ -83,8 +83,12 @@ opened_sound last rows owner file access deny rising apart free (Some old) found
 -- what stops an OPEN, from its tests
 open_stop : Verdict → Bool → Bool → Bool → Bool → Option Stop
 open_stop verdict unshared unnamed opposed past = first (record nothing_stops {
-  lease = lease_stop verdict; arguments = refuse_if unshared Inval; name = refuse_if unnamed NoEnt; conflict = refuse_if opposed ShareDenied;
-  limit = refuse_if past Resource })
+  lease = lease_stop verdict;
+  arguments = refuse_if unshared Inval;
+  name = refuse_if unnamed NoEnt;
+  conflict = refuse_if opposed ShareDenied;
+  limit = refuse_if past Resource;
+})
 
 open_never_repeats : (v : Verdict) (a b c d : Bool) (kept : Reply) → open_stop v a b c d ≡ Some (Repeat kept) → ⊥
 unfolding open_stop
@@ -112,7 +116,7 @@ pub open_goes : (s : Seen) (party : Party) (args : OpenArgs) (verdict : Verdict)
 unfolding open_checks open_stop
 open_goes s party args verdict h =
     let tests = open_is_free verdict (not (is_share args.access args.deny)) (finds_none s args)
-            (is_opposed (opener party args) (file_to_open s args) args.access args.deny s.opens) (draws_past_end s party args || makes_past_end s args) h in
+    (is_opposed (opener party args) (file_to_open s args) args.access args.deny s.opens) (draws_past_end s party args || makes_past_end s args) h in
     let room = no_or (draws_past_end s party args) (makes_past_end s args) tests.3 in
     record { share = not-false (is_share args.access args.deny) tests.0; named = tests.1; free = tests.2; counter = room.0; number = room.1 }
 

@@ -5,6 +5,8 @@
 mod shown;
 mod state;
 mod tables;
+#[cfg(test)]
+mod tests;
 mod tree;
 
 pub use state::FsState;

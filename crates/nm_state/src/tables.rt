@@ -16,9 +16,9 @@ ghost use Rattle.nm_shares.specs.Rows.{state_of, row_to_take};
 
 use crate::tree::Tree;
 use nm_rules::{
-    Bytes, Call, CloseArgs, Deed, Event, FileRow, FsNum, Instance, Items, Memory, OpStatus, OpenArgs,
-    OpenClaim, OpenHow, OpenRow, Opened, Owner, OwnerKind, Recalls, Refusal, Reply, ReplyValue,
-    StateId, StateRef, Verdict,
+    Bytes, Call, CloseArgs, Deed, Event, FileRow, FsNum, Instance, Items, Memory, OpStatus,
+    OpenArgs, OpenClaim, OpenHow, OpenRow, Opened, Owner, OwnerKind, Recalls, Refusal, Reply,
+    ReplyValue, StateId, StateRef, Verdict,
 };
 use nm_shares::{Shares, seqid_after};
 use std::alloc::Global;

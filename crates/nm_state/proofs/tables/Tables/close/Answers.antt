@@ -1,4 +1,3 @@
-use Rattle.std.proofs.Common.{sym}
 use Rattle.nm_rules.specs.declared.calls.Call.{Call}
 use Rattle.nm_rules.specs.declared.calls.Deed.TheVariants.{Close}
 use Rattle.nm_state.proofs.OpeningLemmas.{applied_refused, applied_close, close_drops}
