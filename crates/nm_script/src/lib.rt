@@ -4,15 +4,19 @@
 mod draft;
 mod fault;
 mod memory;
+mod move_text;
 mod names;
 mod order;
+mod outcome_text;
 mod outside;
 mod read;
 mod report;
 mod run;
 mod script;
+mod table_text;
 mod text;
 mod words;
+mod writing;
 
 pub use memory::{MemorySink, MemorySource};
 pub use outside::{Failed, ReadAllFault, Sink, Source, read_all, write_all};
