@@ -1,0 +1,9 @@
+pub mod Answers
+pub mod Changes
+pub mod Door
+pub mod History
+pub mod Laws
+pub mod Moves
+pub mod Passes
+pub mod Phases
+pub mod SlotNow
