@@ -3,6 +3,7 @@
 
 mod action;
 mod calls;
+mod copies;
 mod instance;
 mod items;
 mod laws;
