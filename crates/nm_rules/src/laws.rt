@@ -1,10 +1,12 @@
 //! Laws of legal lists: each is the contract of a function that does nothing. They are over the definitions alone, and
 //! the contracts of the crates above bind the code to the same definitions.
-ghost use Rattle.std.specs.Prelude.{◌≡◌, ◌≢◌, ℕ, Bool};
+ghost use Rattle.std.specs.Prelude.{◌≡◌, ◌≢◌, ℕ, Bool, true};
 ghost use Rattle.nm_rules.specs.Past.{Past, now};
-ghost use Rattle.nm_rules.specs.Seen.{seen, look};
+ghost use Rattle.nm_rules.specs.Seen.{Seen, seen, look};
 ghost use Rattle.nm_rules.specs.Answer.{IsLegal};
 ghost use Rattle.nm_rules.specs.Sound.{IsSound};
+ghost use Rattle.nm_rules.specs.Parties.{Party};
+ghost use Rattle.nm_rules.specs.Holders.{holders, has_row, is_among, parties_rise};
 ghost use Rattle.nm_rules.specs.Readings.{share_of, share_in, AreCompatible};
 ghost use Rattle.nm_rules.specs.declared.calls.Owner.{Owner as AnyOwner};
 
@@ -29,4 +31,10 @@ pub fn tables_show_what_stands()
 /// The tables of a legal list are sound: counters rise up to the last, and all opens may stand together.
 pub fn legal_tables_are_sound()
     ensures { (fs : ℕ) (grants : Bool) (es : Past) → IsLegal fs grants es → IsSound (seen fs grants es) }
+{}
+
+/// The list of holders rises, so that none stands in it twice, and an instance is in it exactly where it has a row.
+pub fn holders_have_rows()
+    ensures rise { (s : Seen) → parties_rise (holders s) ≡ true }
+    ensures exact { (s : Seen) (party : Party) → is_among party (holders s) ≡ has_row party s }
 {}

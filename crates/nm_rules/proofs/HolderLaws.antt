@@ -1,0 +1,123 @@
+-- Laws of the list of holders: it rises, and has just the instances of the rows.
+use Rattle.std.proofs.Common.{◌≡◌, ◌≤◌, ℕ, ◌+◌, Bool, true, false, List, [], ◌∷◌, length, refl, ap, sym, ◌∙◌, arith, rules}
+use Rattle.std.specs.Prelude.{◌&&◌, ◌||◌}
+use Rattle.std.specs.List.{list_any}
+use Rattle.std.specs.Cmp.{IsTotalOrder}
+use Rattle.std.specs.Cmp.Rules.{comparing}
+use Rattle.std.specs.Cmp.Lexicographic.{slice_cmp}
+use Rattle.std.specs.Ordering.{is_lt, nat_cmp, ordering_reverse, ordering_then}
+use Rattle.std.specs.declared.cmp.Ordering.{Ordering}
+use Rattle.std.specs.declared.cmp.Ordering.TheVariants.{Less, Equal, Greater}
+use Rattle.std.proofs.lemmas.Map.Lookups.{exact_bytes, exact_unsigned}
+use Rattle.nm_rules.specs.Parties.{Party, same_party, party_cmp}
+use Rattle.nm_rules.specs.Holders.{put_by, put_party, holders_of, rises_after, parties_rise, is_among}
+use Rattle.nm_rules.specs.declared.rows.OpenRow.{OpenRow}
+
+pub party_cmp-total : IsTotalOrder party_cmp
+party_cmp-total = search (comparing, rules) depth 12
+
+then_parts : (o p : Ordering) → ordering_then o p ≡ Equal → (o ≡ Equal) × (p ≡ Equal)
+then_parts Less p e = cc
+then_parts Equal p e = (refl, e)
+then_parts Greater p e = cc
+
+-- only a party itself stands where it stands
+pub party_cmp-is : (a b : Party) → party_cmp a b ≡ Equal → a ≡ b
+party_cmp-is a b e =
+    let id = then_parts (slice_cmp nat_cmp a.id b.id) _ e in
+    let verifier = then_parts (nat_cmp a.verifier b.verifier) _ id.1 in
+    let flavor = then_parts (nat_cmp a.principal.flavor b.principal.flavor) _ verifier.1 in
+    λ i. record {
+      id = exact_bytes a.id b.id id.0 i;
+      verifier = exact_unsigned a.verifier b.verifier verifier.0 i;
+      principal = record {
+        flavor = exact_unsigned a.principal.flavor b.principal.flavor flavor.0 i;
+        uid = exact_unsigned a.principal.uid b.principal.uid flavor.1 i;
+      };
+    }
+
+-- one party stands before another where that one stands after it
+pub party_cmp-back : (a b : Party) → party_cmp a b ≡ Greater → party_cmp b a ≡ Less
+party_cmp-back a b e = party_cmp-total.antisymm b a ∙ ap ordering_reverse e
+
+or_swap : (a b c : Bool) → (a || (b || c)) ≡ (b || (a || c))
+or_swap true true c = refl
+or_swap true false c = refl
+or_swap false b c = refl
+
+or_twice : (a c : Bool) → (a || c) ≡ (a || (a || c))
+or_twice true c = refl
+or_twice false c = refl
+
+-- the list after a put has the party, and what was there
+pub among-put : (p party : Party) (xs : List Party) → is_among p (put_party party xs) ≡ (same_party p party || is_among p xs)
+among-put p party [] = refl
+among-put p party (x ∷ xs) = by_place (party_cmp x party) refl (among-put p party xs)
+  where
+    by_place : (o : Ordering) → party_cmp x party ≡ o → is_among p (put_party party xs) ≡ (same_party p party || is_among p xs)
+        → is_among p (put_by o party x xs (put_party party xs)) ≡ (same_party p party || (same_party p x || is_among p xs))
+    by_place Less place later = ap (λ b. same_party p x || b) later ∙ or_swap (same_party p x) (same_party p party) (is_among p xs)
+    by_place Equal place later =
+        or_twice (same_party p x) (is_among p xs) ∙ ap (λ q. same_party p q || (same_party p x || is_among p xs)) (party_cmp-is x party place)
+    by_place Greater place later = refl
+
+-- a party is a holder just where some row is its own
+pub among-holders : (p : Party) (rows : List OpenRow) → is_among p (holders_of rows) ≡ list_any (λ (row : OpenRow). same_party p row.owner.instance) rows
+unfolding holders_of
+among-holders p [] = refl
+among-holders p (row ∷ rows) =
+    among-put p row.owner.instance (holders_of rows) ∙ ap (λ b. same_party p row.owner.instance || b) (among-holders p rows)
+
+both : (a b : Bool) → a ≡ true → b ≡ true → (a && b) ≡ true
+both a b x y = rw (x, y) refl
+
+lt_parts : (o : Ordering) (b : Bool) → (is_lt o && b) ≡ true → (o ≡ Less) × (b ≡ true)
+lt_parts Less b h = (refl, h)
+lt_parts Equal b h = cc
+lt_parts Greater b h = cc
+
+-- what rises after a party still does with one put behind it
+pub rises_after-put : (before party : Party) (xs : List Party) → rises_after before xs ≡ true → party_cmp before party ≡ Less → rises_after before (put_party party xs) ≡ true
+rises_after-put before party [] rises above = rw above refl
+rises_after-put before party (x ∷ xs) rises above =
+    let parts = lt_parts (party_cmp before x) (rises_after x xs) rises in
+    by_place (party_cmp x party) refl (rises_after-put x party xs parts.1)
+  where
+    by_place : (o : Ordering) → party_cmp x party ≡ o → (party_cmp x party ≡ Less → rises_after x (put_party party xs) ≡ true)
+        → rises_after before (put_by o party x xs (put_party party xs)) ≡ true
+    by_place Less place later = both _ _ (ap is_lt (lt_parts (party_cmp before x) (rises_after x xs) rises).0) (later place)
+    by_place Equal place later = rises
+    by_place Greater place later = both _ _ (ap is_lt above) (both _ _ (ap is_lt (party_cmp-back x party place)) (lt_parts (party_cmp before x) (rises_after x xs) rises).1)
+
+-- a put keeps the list rising
+pub parties_rise-put : (party : Party) (xs : List Party) → parties_rise xs ≡ true → parties_rise (put_party party xs) ≡ true
+parties_rise-put party [] rises = refl
+parties_rise-put party (x ∷ xs) rises = by_place (party_cmp x party) refl
+  where
+    by_place : (o : Ordering) → party_cmp x party ≡ o → parties_rise (put_by o party x xs (put_party party xs)) ≡ true
+    by_place Less place = rises_after-put x party xs rises place
+    by_place Equal place = rises
+    by_place Greater place = both _ _ (ap is_lt (party_cmp-back x party place)) rises
+
+-- so holders rise
+pub parties_rise-holders : (rows : List OpenRow) → parties_rise (holders_of rows) ≡ true
+unfolding holders_of
+parties_rise-holders [] = refl
+parties_rise-holders (row ∷ rows) = parties_rise-put row.owner.instance (holders_of rows) (parties_rise-holders rows)
+
+-- a put adds one party or none
+pub length-put : (party : Party) (xs : List Party) → (length xs ≤ length (put_party party xs)) × (length (put_party party xs) ≤ length xs + 1)
+length-put party [] = (omega arith, omega arith)
+length-put party (x ∷ xs) = by_place (party_cmp x party) (length-put party xs)
+  where
+    by_place : (o : Ordering) → (length xs ≤ length (put_party party xs)) × (length (put_party party xs) ≤ length xs + 1)
+        → (length (x ∷ xs) ≤ length (put_by o party x xs (put_party party xs))) × (length (put_by o party x xs (put_party party xs)) ≤ length (x ∷ xs) + 1)
+    by_place Less later = (omega (arith, later.0), omega (arith, later.1))
+    by_place Equal later = (omega arith, omega arith)
+    by_place Greater later = (omega arith, omega arith)
+
+-- there are no more holders than rows
+pub holders_fit : (rows : List OpenRow) → length (holders_of rows) ≤ length rows
+unfolding holders_of
+holders_fit [] = omega arith
+holders_fit (row ∷ rows) = omega (arith, (length-put row.owner.instance (holders_of rows)).1, holders_fit rows)
