@@ -1,11 +1,14 @@
 -- Laws of the list of holders: it rises, and has just the instances of the rows.
-use Rattle.std.proofs.Common.{◌≡◌, ◌≤◌, ℕ, ◌+◌, Bool, true, false, List, [], ◌∷◌, length, refl, ap, sym, ◌∙◌, arith, rules}
+use Rattle.std.proofs.Common.{◌≡◌, ◌≤◌, ◌<◌, ℕ, zero, suc, ◌+◌, Bool, true, false, Result, Ok, Err, List, [], ◌∷◌, length, refl, ap, sym, ◌∙◌, arith, rules}
 use Rattle.std.specs.Prelude.{◌&&◌, ◌||◌}
-use Rattle.std.specs.List.{list_any}
+use Rattle.std.specs.List.{list_any, insert, HoldsAt, AllWithin, AllAdjacentBelow}
+use Rattle.std.specs.List.Sorted.{IsNonDecreasingBy, IsSearchInRange, IsBinarySearchResult}
+use Rattle.std.specs.Result.{MatchResult}
+use Rattle.std.proofs.lemmas.List.Sorted.{IsNonDecreasingBy-from_all_adjacent}
 use Rattle.std.specs.Cmp.{IsTotalOrder}
 use Rattle.std.specs.Cmp.Rules.{comparing}
 use Rattle.std.specs.Cmp.Lexicographic.{slice_cmp}
-use Rattle.std.specs.Ordering.{is_lt, nat_cmp, ordering_reverse, ordering_then}
+use Rattle.std.specs.Ordering.{is_lt, nat_cmp, ordering_index, ordering_reverse, ordering_then}
 use Rattle.std.specs.declared.cmp.Ordering.{Ordering}
 use Rattle.std.specs.declared.cmp.Ordering.TheVariants.{Less, Equal, Greater}
 use Rattle.std.proofs.lemmas.Map.Lookups.{exact_bytes, exact_unsigned}
@@ -121,3 +124,65 @@ pub holders_fit : (rows : List OpenRow) → length (holders_of rows) ≤ length 
 unfolding holders_of
 holders_fit [] = omega arith
 holders_fit (row ∷ rows) = omega (arith, (length-put row.owner.instance (holders_of rows)).1, holders_fit rows)
+
+-- ---- Where a binary search puts a party
+
+-- of two parties that rise the first stands no further behind a third
+steps_up : (p a b : Party) → party_cmp a b ≡ Less → ordering_index (party_cmp a p) ≤ ordering_index (party_cmp b p)
+steps_up p a b rises = by_second (party_cmp b p) refl
+  where
+    last : (o : Ordering) → ordering_index o ≤ 2
+    last Less = omega arith
+    last Equal = omega arith
+    last Greater = omega arith
+
+    by_second : (o : Ordering) → party_cmp b p ≡ o → ordering_index (party_cmp a p) ≤ ordering_index o
+    by_second Less below = rw (party_cmp-total.trans a b p rises below) (omega arith)
+    by_second Equal same = rw (← party_cmp-is b p same, rises) (omega arith)
+    by_second Greater above = last (party_cmp a p)
+
+next_rises : (p : Party) (xs : List Party) → parties_rise xs ≡ true → AllAdjacentBelow (λ x y. ordering_index (party_cmp x p) ≤ ordering_index (party_cmp y p)) xs (length xs)
+next_rises p [] rises k d below = absurd (omega (arith, below))
+next_rises p (x ∷ []) rises k d below = absurd (omega (arith, below))
+next_rises p (x ∷ y ∷ ys) rises zero d below = steps_up p x y (lt_parts (party_cmp x y) (rises_after y ys) rises).0
+next_rises p (x ∷ y ∷ ys) rises (suc k) d below =
+    let next : suc k + 1 ≡ suc (k + 1) = omega arith in
+    rw next (next_rises p (y ∷ ys) (lt_parts (party_cmp x y) (rises_after y ys) rises).1 k d (omega (arith, below)))
+
+-- in a rising list the parties before a party come first, and those behind it last
+places_rise : (p : Party) (xs : List Party) → parties_rise xs ≡ true → IsNonDecreasingBy (λ y. ordering_index (party_cmp y p)) xs
+places_rise p xs rises = IsNonDecreasingBy-from_all_adjacent (λ y. ordering_index (party_cmp y p)) xs (next_rises p xs rises)
+
+rest_rises : (x : Party) (xs : List Party) → parties_rise (x ∷ xs) ≡ true → parties_rise xs ≡ true
+rest_rises x [] rises = refl
+rest_rises x (y ∷ ys) rises = (lt_parts (party_cmp x y) (rises_after y ys) rises).1
+
+-- a party that is there stays
+pub put_found : (p : Party) (xs : List Party) (i : ℕ) → parties_rise xs ≡ true → i < length xs → HoldsAt (λ y. party_cmp y p ≡ Equal) xs i → put_party p xs ≡ xs
+put_found p [] i rises below found = absurd (omega (arith, below))
+put_found p (x ∷ xs) zero rises below found = rw (found x) refl
+put_found p (x ∷ xs) (suc i) rises below found =
+    by_place (party_cmp x p) (omega (arith, places_rise p (x ∷ xs) rises 0 (suc i) x (omega arith) below, ap ordering_index (found x))) (put_found p xs i (rest_rises x xs rises) (omega (arith, below)) found)
+  where
+    by_place : (o : Ordering) → ordering_index o ≤ 1 → put_party p xs ≡ xs → put_by o p x xs (put_party p xs) ≡ x ∷ xs
+    by_place Less le later = ap (λ ys. x ∷ ys) later
+    by_place Equal le later = refl
+    by_place Greater le later = absurd (omega (arith, le))
+
+-- a party that isn't comes in between
+pub put_missing : (p : Party) (xs : List Party) (i : ℕ) → i ≤ length xs → AllWithin (λ y. party_cmp y p ≡ Less) xs 0 i → AllWithin (λ y. party_cmp y p ≡ Greater) xs i (length xs)
+    → put_party p xs ≡ insert xs i p
+put_missing p [] zero fits before behind = refl
+put_missing p [] (suc i) fits before behind = absurd (omega (arith, fits))
+put_missing p (x ∷ xs) zero fits before behind = rw (behind 0 x (omega arith) (omega arith)) refl
+put_missing p (x ∷ xs) (suc i) fits before behind =
+    rw (before 0 x (omega arith) (omega arith))
+    (ap (λ ys. x ∷ ys) (put_missing p xs i (omega (arith, fits)) (λ k d low high. before (suc k) d (omega arith) (omega (arith, high))) (λ k d low high. behind (suc k) d (omega (arith, low)) (omega (arith, high)))))
+
+-- what a binary search answers is the place of a put
+pub put_by_search : (p : Party) (xs : List Party) (r : Result ℕ ℕ) → parties_rise xs ≡ true → IsSearchInRange r (length xs) → IsBinarySearchResult (λ y. party_cmp y p) xs r
+    → MatchResult r (λ _. put_party p xs ≡ xs) (λ i. put_party p xs ≡ insert xs i p)
+put_by_search p xs (Ok i) rises range found = put_found p xs i rises range found
+put_by_search p xs (Err i) rises range missing =
+    let parts = missing (places_rise p xs rises) in
+    put_missing p xs i range parts.0 parts.1
