@@ -1,6 +1,6 @@
--- Laws of the list of holders: it rises, and has just the instances of the rows.
-use Rattle.std.proofs.Common.{◌≡◌, ◌≤◌, ◌<◌, ℕ, zero, suc, ◌+◌, Bool, true, false, Result, Ok, Err, List, [], ◌∷◌, length, refl, ap, sym, ◌∙◌, arith, rules}
-use Rattle.std.specs.Prelude.{◌&&◌, ◌||◌}
+-- Laws of the list of holders: it rises, has just the instances of the rows, and is no longer than these.
+use Rattle.std.proofs.Common.{◌≡◌, ◌≤◌, ◌<◌, ℕ, zero, suc, ◌+◌, Bool, true, false, cond, Result, Ok, Err, List, [], ◌∷◌, length, refl, ap, sym, ◌∙◌, arith, rules}
+use Rattle.std.specs.Prelude.{◌==◌, ◌&&◌, ◌||◌, not, filter}
 use Rattle.std.specs.List.{list_any, insert, HoldsAt, AllWithin, AllAdjacentBelow}
 use Rattle.std.specs.List.Sorted.{IsNonDecreasingBy, IsSearchInRange, IsBinarySearchResult}
 use Rattle.std.specs.Result.{MatchResult}
@@ -14,6 +14,12 @@ use Rattle.std.specs.declared.cmp.Ordering.TheVariants.{Less, Equal, Greater}
 use Rattle.std.proofs.lemmas.Map.Lookups.{exact_bytes, exact_unsigned}
 use Rattle.nm_rules.specs.Parties.{Party, same_party, party_cmp}
 use Rattle.nm_rules.specs.Holders.{put_by, put_party, holders_of, rises_after, parties_rise, is_among}
+use Rattle.nm_rules.specs.Shares.{OpenWord, put_open, opens_after}
+use Rattle.nm_rules.specs.Shares.OpenWord.{Keep, Put, Drop, DropOf}
+use Rattle.nm_rules.specs.Past.{words}
+use Rattle.nm_rules.specs.Seen.{Seen, look, after, after_words}
+use Rattle.nm_rules.specs.declared.calls.Event.{Event}
+use Rattle.nm_rules.specs.declared.calls.Reply.{Reply}
 use Rattle.nm_rules.specs.declared.rows.OpenRow.{OpenRow}
 
 pub party_cmp-total : IsTotalOrder party_cmp
@@ -186,3 +192,33 @@ put_by_search p xs (Ok i) rises range found = put_found p xs i rises range found
 put_by_search p xs (Err i) rises range missing =
     let parts = missing (places_rise p xs rises) in
     put_missing p xs i range parts.0 parts.1
+
+-- ---- How many rows an event leaves
+
+length-put_open : (row : OpenRow) (rows : List OpenRow) → length (put_open row rows) ≤ length rows + 1
+length-put_open row [] = omega arith
+length-put_open row (x ∷ xs) = by_head (x.counter == row.counter) (length-put_open row xs)
+  where
+    by_head : (b : Bool) → length (put_open row xs) ≤ length xs + 1 → length (cond b (row ∷ xs) (x ∷ put_open row xs)) ≤ length (x ∷ xs) + 1
+    by_head true later = omega arith
+    by_head false later = omega (arith, later)
+
+length-filter-le : (p : OpenRow → Bool) (rows : List OpenRow) → length (filter p rows) ≤ length rows
+length-filter-le p [] = omega arith
+length-filter-le p (x ∷ xs) = by_head (p x) (length-filter-le p xs)
+  where
+    by_head : (b : Bool) → length (filter p xs) ≤ length xs → length (cond b (x ∷ filter p xs) (filter p xs)) ≤ length (x ∷ xs)
+    by_head true later = omega (arith, later)
+    by_head false later = omega (arith, later)
+
+opens_grow : (word : OpenWord) (rows : List OpenRow) → length (opens_after word rows) ≤ length rows + 1
+unfolding opens_after
+opens_grow Keep rows = omega arith
+opens_grow (Put row) rows = length-put_open row rows
+opens_grow (Drop counter) rows = omega (arith, length-filter-le (λ (x : OpenRow). not (x.counter == counter)) rows)
+opens_grow (DropOf party) rows = omega (arith, length-filter-le (λ (x : OpenRow). not (same_party party x.owner.instance)) rows)
+
+-- an event adds at most one row
+pub rows_grow : (s : Seen) (event : Event) (reply : Reply) → length (after s event reply).opens ≤ length s.opens + 1
+unfolding after_words
+rows_grow s event reply = opens_grow (words (look s) event reply).opens s.opens

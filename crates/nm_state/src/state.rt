@@ -3,6 +3,7 @@ ghost use Rattle.std.specs.Prelude.{◌≡◌, ◌≤◌, [], false, ℕ, Bool, 
 ghost use Rattle.std.specs.Vec.{vec_capacity};
 ghost use Rattle.nm_rules.specs.Past.{Past};
 ghost use Rattle.nm_rules.specs.Seen.{seen};
+ghost use Rattle.nm_rules.specs.Sound.{IsSound};
 ghost use Rattle.nm_rules.specs.Answer.{answer, add};
 ghost use Rattle.nm_rules.specs.Held.{held_table};
 ghost use Rattle.nm_rules.specs.Holders.{holders};
@@ -29,11 +30,17 @@ impl Model for FsState {
 
     ghost Value = { StateNow };
 
+    ghost use Rattle.std.specs.Prelude.{◌≡◌, false};
+    ghost use Rattle.nm_rules.specs.Sound.{IsSound};
+
     ghost view = { λ s. record { seen = s.tables; spent = s.spent } };
+
+    ghost invariant = { λ s. s.spent ≡ false → IsSound s.tables };
 }
 
 impl FsState {
     /// The state of a file system before the first entry: no file but the root, and nothing open.
+    #[tactic(auto, using(crate::proofs::OpeningLemmas::empty_sound))]
     pub fn new(alloc: Global, fs: FsNum, grants: bool) -> Result<FsState, Memory>
         ensures { IfOk result (λ s. s ≡ fresh fs grants) }
     {
@@ -42,6 +49,14 @@ impl FsState {
             tables: Tables::new(alloc, fs, grants),
             spent: false,
         })
+    }
+
+    /// The tables of a state that isn't spent are sound: counters rise up to the last one, and all opens may stand
+    /// together.
+    pub fn tables_are_sound(&self)
+        ensures { self.now.spent ≡ false → IsSound self.now.seen }
+    {
+        let _ = &self.spent;
     }
 
     /// The reply that `apply` would give.
