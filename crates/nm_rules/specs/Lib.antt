@@ -3,6 +3,7 @@ pub mod Answer
 pub mod Checks
 pub mod Files
 pub mod Held
+pub mod Holders
 pub mod Opens
 pub mod Owners
 pub mod Parties

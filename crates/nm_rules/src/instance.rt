@@ -3,6 +3,7 @@ ghost use Rattle.std.specs.Prelude.{◌≡◌, ◌<◌, ◌≤◌, ◌↔◌, �
 ghost use Rattle.nm_rules.specs.Parties.{padded, same_party};
 ghost use Rattle.nm_rules.specs.declared.instance.NameFault.TheVariants.{TooLong};
 
+use std::cmp::Ordering;
 use std::marker::Model;
 
 /// Who vouches for a caller: an RPC flavor with the user that it names. AUTH_NONE (flavor 0) has uid 0;
@@ -142,4 +143,43 @@ impl Eq for Instance {
     ghost use Rattle.std.proofs.Common.{rules};
 
     ghost laws = { Prim.search (comparing, rules) };
+}
+
+impl Ord for Instance {
+    ghost use Rattle.nm_rules.specs.Parties.{party_cmp};
+    ghost use Rattle.std.specs.Cmp.Rules.{comparing};
+    ghost use Rattle.std.proofs.Common.{rules};
+
+    ghost cmp = { party_cmp };
+
+    ghost total = { Prim.search (comparing, rules) };
+
+    ghost matches_partial_cmp = { Prim.search (comparing, rules) };
+
+    ghost matches_eq = { Prim.search (comparing, rules) };
+
+    /// The order of string, verifier, flavor and user.
+    fn cmp(&self, other: &Self) -> Ordering {
+        self.id()
+            .cmp(other.id())
+            .then(self.verifier.cmp(&other.verifier))
+            .then(self.principal.flavor.cmp(&other.principal.flavor))
+            .then(self.principal.uid.cmp(&other.principal.uid))
+    }
+}
+
+impl PartialOrd for Instance {
+    ghost use Rattle.nm_rules.specs.Parties.{party_cmp};
+    ghost use Rattle.std.specs.Cmp.{partial_order_from_own_ties};
+    ghost use Rattle.std.specs.Cmp.Rules.{comparing};
+    ghost use Rattle.std.specs.Ordering.{as_partial_cmp};
+    ghost use Rattle.std.proofs.Common.{rules};
+
+    ghost partial_cmp = { as_partial_cmp party_cmp };
+
+    ghost laws = { partial_order_from_own_ties (Prim.search (comparing, rules) depth 12) (Prim.search (comparing, rules) depth 12) };
+
+    fn partial_cmp(&self, other: &Self) -> Option<Ordering> {
+        Some(self.cmp(other))
+    }
 }

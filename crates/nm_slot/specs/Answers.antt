@@ -1,0 +1,168 @@
+-- What each call on a file system at a server answers, by what the server has of it.
+use Rattle.std.specs.Prelude.{◌==◌, ◌||◌, not, nat_le, nat_lt, ℕ, ◌+◌, ◌-◌, ◌^◌, Bool, true, false, Option, Some, None, if◌then◌else◌}
+use Rattle.nm_rules.specs.Answer.{answer_to}
+use Rattle.nm_rules.specs.Holders.{holders}
+use Rattle.nm_rules.specs.Seen.{Seen}
+use Rattle.nm_rules.specs.declared.calls.Call.{Call}
+use Rattle.nm_rules.specs.declared.calls.Event.TheVariants.{Asked}
+use Rattle.nm_rules.specs.declared.calls.Verdict.{Verdict}
+use Rattle.nm_slot.specs.declared.answers.Abandon.{Abandon}
+use Rattle.nm_slot.specs.declared.answers.Abandon.TheVariants as abandon
+use Rattle.nm_slot.specs.declared.answers.Accept.{Accept}
+use Rattle.nm_slot.specs.declared.answers.Accept.TheVariants as accept
+use Rattle.nm_slot.specs.declared.answers.Answer.{Answer}
+use Rattle.nm_slot.specs.declared.answers.Answer.TheVariants as answer
+use Rattle.nm_slot.specs.declared.answers.Begin.{Begin}
+use Rattle.nm_slot.specs.declared.answers.Begin.TheVariants as begin
+use Rattle.nm_slot.specs.declared.answers.Enter.{Enter}
+use Rattle.nm_slot.specs.declared.answers.Enter.TheVariants as enter
+use Rattle.nm_slot.specs.declared.answers.Freeze.{Freeze}
+use Rattle.nm_slot.specs.declared.answers.Freeze.TheVariants as freeze
+use Rattle.nm_slot.specs.declared.answers.Install.{Install}
+use Rattle.nm_slot.specs.declared.answers.Install.TheVariants as install
+use Rattle.nm_slot.specs.SlotNow.{Doing, Stage, Offer, Left, Own, SlotView, HandedOver}
+use Rattle.nm_slot.specs.SlotNow.Doing.{Serves, Closes, Froze}
+use Rattle.nm_slot.specs.SlotNow.Stage.{Away, Here}
+use Rattle.nm_slot.specs.SlotNow.HandedOver.{Committed, Again, Dead}
+
+-- ---- the door
+
+-- A server that hasn't the state lets nobody in: a held offer is on its way, and after a commit the file system is at
+-- that commit's destination.
+abbrev pub turned_away : Option Offer → Option Left → Enter
+turned_away (Some offer) left = enter.Delay
+turned_away None (Some left) = enter.Moved left.dest
+turned_away None None = enter.Unknown
+
+abbrev pub let_in : ℕ → Doing → Own → Enter
+let_in fs Serves own =
+    if nat_le (2 ^ 63) own.out then enter.Full own.out else enter.Entered (record { fs = fs; epoch = own.epoch })
+let_in fs (Closes dest number) own = enter.Delay
+let_in fs (Froze dest number) own = enter.Delay
+
+abbrev pub entered : ℕ → Stage → Own → Enter
+entered fs (Here doing state) own = let_in fs doing own
+entered fs Away own = turned_away own.held own.left
+
+unfoldable pub enter_answer : SlotView → Enter
+enter_answer v = entered v.fs v.stage v.own
+
+-- ---- calls
+
+-- A pass of this epoch makes a call, while there is room for its entry.
+abbrev pub called : ℕ → Call → Verdict → Seen → Own → Answer
+called epoch call verdict state own =
+    if not (epoch == own.epoch) then answer.Strayed epoch own.epoch else
+    if nat_le (2 ^ 63 - 2 ^ 17) own.count then answer.Last own.count else
+    answer.Done (own.count + 1) (answer_to state (Asked call verdict))
+
+-- calls are taken while the state is served, and while its move waits for those under way
+abbrev pub applied : ℕ → Call → Verdict → Stage → Own → Answer
+applied epoch call verdict (Here Serves state) own = called epoch call verdict state own
+applied epoch call verdict (Here (Closes dest number) state) own = called epoch call verdict state own
+applied epoch call verdict (Here (Froze dest number) state) own = answer.Strayed epoch own.epoch
+applied epoch call verdict Away own = answer.Strayed epoch own.epoch
+
+unfoldable pub apply_answer : SlotView → ℕ → Call → Verdict → Answer
+apply_answer v epoch call verdict = applied epoch call verdict v.stage v.own
+
+-- ---- the source
+
+-- No move begins where its number, the epoch or the count of entries would have no successor.
+abbrev pub is_at_end : Own → Bool
+is_at_end own = nat_le (2 ^ 63) own.known || nat_le (2 ^ 63) own.epoch || nat_lt (2 ^ 63) own.count
+
+abbrev pub begun : ℕ → ℕ → Stage → Own → Begin
+begun here dest Away own = begin.NotServed
+begun here dest (Here (Closes to number) state) own = begin.Busy number
+begun here dest (Here (Froze to number) state) own = begin.Busy number
+begun here dest (Here Serves state) own =
+    if here == dest then begin.Same else
+    if is_at_end own then begin.Last else begin.Begun (own.known + 1)
+
+unfoldable pub begin_answer : SlotView → ℕ → ℕ → Begin
+begin_answer v here dest = begun here dest v.stage v.own
+
+-- A move waits until no pass is out.
+abbrev pub frozen : Stage → Own → Freeze
+frozen (Here (Closes dest number) state) own = if own.out == 0 then freeze.Frozen number else freeze.Waiting own.out
+frozen (Here (Froze dest number) state) own = freeze.Frozen number
+frozen (Here Serves state) own = freeze.Idle
+frozen Away own = freeze.Idle
+
+unfoldable pub freeze_answer : SlotView → Freeze
+freeze_answer v = frozen v.stage v.own
+
+-- What is on offer is the frozen state, for the next epoch.
+abbrev pub offered : Stage → Own → Option Offer
+offered (Here (Froze dest number) state) own =
+    Some (record { number = number; epoch = own.epoch + 1; count = own.count; state = state })
+offered (Here (Closes dest number) state) own = None
+offered (Here Serves state) own = None
+offered Away own = None
+
+unfoldable pub image_answer : SlotView → Option Offer
+image_answer v = offered v.stage v.own
+
+-- it went by this move
+abbrev pub is_left_by : ℕ → Option Left → Bool
+is_left_by number None = false
+is_left_by number (Some left) = left.number == number
+
+abbrev pub committed_away : ℕ → Option Offer → Own → HandedOver
+committed_away number (Some offer) own = Dead own.known
+committed_away number None own = if is_left_by number own.left then Again else Dead own.known
+
+abbrev pub committed : ℕ → Stage → Own → HandedOver
+committed number (Here (Froze dest its) state) own = if its == number then Committed (holders state) else Dead own.known
+committed number (Here (Closes dest its) state) own = Dead own.known
+committed number (Here Serves state) own = Dead own.known
+committed number Away own = committed_away number own.held own
+
+unfoldable pub commit_answer : SlotView → ℕ → HandedOver
+commit_answer v number = committed number v.stage v.own
+
+abbrev pub abandoned_away : Option Offer → Option Left → Abandon
+abandoned_away (Some offer) left = abandon.Idle
+abandoned_away None (Some left) = abandon.Late
+abandoned_away None None = abandon.Idle
+
+abbrev pub abandoned : Stage → Own → Abandon
+abandoned (Here (Closes dest number) state) own = abandon.Back number
+abandoned (Here (Froze dest number) state) own = abandon.Back number
+abandoned (Here Serves state) own = abandon.Idle
+abandoned Away own = abandoned_away own.held own.left
+
+unfoldable pub abandon_answer : SlotView → Abandon
+abandon_answer v = abandoned v.stage v.own
+
+-- ---- the destination
+
+-- the offer of this move is held
+abbrev pub is_offer_of : ℕ → Option Offer → Bool
+is_offer_of number None = false
+is_offer_of number (Some offer) = offer.number == number
+
+abbrev pub accepted_at : Stage → Accept
+accepted_at Away = accept.Held
+accepted_at (Here doing state) = accept.Live
+
+-- An offer is held once, and only where no move of its number or a greater one is known.
+abbrev pub accepted : ℕ → Stage → Own → Accept
+accepted number stage own =
+    if is_offer_of number own.held then accept.Held else
+    if nat_le number own.known then accept.Old own.known else accepted_at stage
+
+unfoldable pub accept_answer : SlotView → ℕ → Accept
+accept_answer v number = accepted number v.stage v.own
+
+abbrev pub installed : ℕ → Own → Install
+installed number own =
+    if is_offer_of number own.held then install.Now else
+    if nat_le number own.installed then install.Already else install.Absent
+
+unfoldable pub install_answer : SlotView → ℕ → Install
+install_answer v number = installed number v.own
+
+unfoldable pub withdraw_answer : SlotView → ℕ → Bool
+withdraw_answer v number = is_offer_of number v.own.held

@@ -1,0 +1,94 @@
+-- What each answered call leaves of a file system at a server.
+use Rattle.std.specs.Prelude.{ℕ, ◌+◌, ◌-◌, ◌==◌, Bool, true, false, Option, Some, None, max, if◌then◌else◌}
+use Rattle.nm_rules.specs.Seen.{Seen, after}
+use Rattle.nm_rules.specs.declared.calls.Event.{Event}
+use Rattle.nm_rules.specs.declared.calls.Event.TheVariants.{Asked}
+use Rattle.nm_rules.specs.declared.calls.Reply.{Reply}
+use Rattle.nm_slot.specs.declared.answers.Abandon.{Abandon}
+use Rattle.nm_slot.specs.declared.answers.Abandon.TheVariants as abandon
+use Rattle.nm_slot.specs.declared.answers.Accept.{Accept}
+use Rattle.nm_slot.specs.declared.answers.Accept.TheVariants as accept
+use Rattle.nm_slot.specs.declared.answers.Answer.{Answer}
+use Rattle.nm_slot.specs.declared.answers.Answer.TheVariants as answer
+use Rattle.nm_slot.specs.declared.answers.Begin.{Begin}
+use Rattle.nm_slot.specs.declared.answers.Begin.TheVariants as begin
+use Rattle.nm_slot.specs.declared.answers.Enter.{Enter}
+use Rattle.nm_slot.specs.declared.answers.Enter.TheVariants as enter
+use Rattle.nm_slot.specs.declared.answers.Freeze.{Freeze}
+use Rattle.nm_slot.specs.declared.answers.Freeze.TheVariants as freeze
+use Rattle.nm_slot.specs.declared.answers.Install.{Install}
+use Rattle.nm_slot.specs.declared.answers.Install.TheVariants as install
+use Rattle.nm_slot.specs.SlotNow.{Doing, Stage, Offer, Left, Own, SlotView, HandedOver, SlotStep}
+use Rattle.nm_slot.specs.SlotNow.Doing.{Serves, Closes, Froze}
+use Rattle.nm_slot.specs.SlotNow.Stage.{Away, Here}
+use Rattle.nm_slot.specs.SlotNow.HandedOver.{Committed, Again, Dead}
+use Rattle.nm_slot.specs.SlotNow.SlotStep.{Entering, Leaving, Applying, Beginning, Freezing, Imaging, Committing, Abandoning, Accepting, Installing, Withdrawing}
+
+-- ---- the state, and what is done with it
+
+abbrev pub with_doing : Doing → Stage → Stage
+with_doing doing Away = Away
+with_doing doing (Here its state) = Here doing state
+
+-- the destination of the move that is under way here
+abbrev pub dest_doing : Doing → ℕ
+dest_doing Serves = 0
+dest_doing (Closes dest number) = dest
+dest_doing (Froze dest number) = dest
+
+abbrev pub dest_at : Stage → ℕ
+dest_at Away = 0
+dest_at (Here doing state) = dest_doing doing
+
+abbrev pub stage_called : Event → Reply → Stage → Stage
+stage_called event reply Away = Away
+stage_called event reply (Here doing state) = Here doing (after state event reply)
+
+abbrev pub stage_of_offer : Option Offer → Stage → Stage
+stage_of_offer None stage = stage
+stage_of_offer (Some offer) stage = Here Serves offer.state
+
+abbrev pub stage_after : SlotStep → Option Offer → Stage → Stage
+stage_after (Applying epoch call verdict (answer.Done place reply)) held stage = stage_called (Asked call verdict) reply stage
+stage_after (Beginning here dest (begin.Begun number)) held stage = with_doing (Closes dest number) stage
+stage_after (Freezing (freeze.Frozen number)) held stage = with_doing (Froze (dest_at stage) number) stage
+stage_after (Committing number (Committed parties)) held stage = Away
+stage_after (Abandoning (abandon.Back number)) held stage = with_doing Serves stage
+stage_after (Installing number install.Now) held stage = stage_of_offer held stage
+stage_after _ held stage = stage
+
+-- ---- what the server remembers
+
+abbrev pub own_installed : ℕ → Option Offer → Own → Own
+own_installed number None own = own
+own_installed number (Some offer) own =
+    record own { held = None; installed = number; epoch = offer.epoch; count = offer.count }
+
+-- The offer is held from now on, in the place of a lower one. One that is held already stays.
+abbrev pub own_accepted : Offer → Option Offer → Own → Own
+own_accepted offer None own = record own { held = Some offer; known = offer.number }
+own_accepted offer (Some its) own =
+    if its.number == offer.number then own else record own { held = Some offer; known = offer.number }
+
+abbrev pub own_withdrawn : Bool → ℕ → Own → Own
+own_withdrawn true number own = record own { held = None; known = max own.known number }
+own_withdrawn false number own = record own { known = max own.known number }
+
+-- by the destination of the move that is under way here
+abbrev pub own_after : SlotStep → ℕ → Own → Own
+own_after (Entering (enter.Entered pass)) dest own = record own { out = own.out + 1 }
+own_after (Leaving epoch) dest own = record own { out = own.out - 1 }
+own_after (Applying epoch call verdict (answer.Done place reply)) dest own = record own { count = place }
+own_after (Beginning here to (begin.Begun number)) dest own = record own { known = number }
+own_after (Committing number (Committed parties)) dest own = record own { left = Some (record { dest = dest; number = number }) }
+own_after (Accepting offer accept.Held) dest own = own_accepted offer own.held own
+own_after (Installing number install.Now) dest own = own_installed number own.held own
+own_after (Withdrawing number dropped) dest own = own_withdrawn dropped number own
+own_after _ dest own = own
+
+-- what an answered call leaves
+unfoldable pub slot_after : SlotView → SlotStep → SlotView
+slot_after v step = record v {
+  stage = stage_after step v.own.held v.stage;
+  own = own_after step (dest_at v.stage) v.own;
+}

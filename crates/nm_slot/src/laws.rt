@@ -1,0 +1,52 @@
+//! Laws of every history of a file system: its servers' steps in any order, where what was sent may come late, more than
+//! once, or never. Each is the contract of a function that does nothing.
+ghost use Rattle.std.specs.Prelude.{◌≡◌, ◌≢◌, ◌↔◌, ℕ, List, ◌∷◌};
+ghost use Rattle.nm_rules.specs.Answer.{IsLegal};
+ghost use Rattle.nm_slot.specs.SlotNow.{phase_of, SlotStep};
+ghost use Rattle.nm_slot.specs.SlotNow.SlotStep.{Entering, Installing};
+ghost use Rattle.nm_slot.specs.Changes.{slot_after};
+ghost use Rattle.nm_slot.specs.Door.{door_answer};
+ghost use Rattle.nm_slot.specs.History.{Home, IsHistory, slot_now, own_now, entries_now};
+ghost use Rattle.nm_slot.specs.Laws.{IsWhole, NeverComes};
+ghost use Rattle.nm_slot.specs.Phases.{Moment, phase_now};
+ghost use Rattle.nm_slot.specs.Phases.Phase.{At};
+ghost use Rattle.nm_slot.specs.declared.answers.Enter.{Enter as AnyEnter};
+ghost use Rattle.nm_slot.specs.declared.answers.Install.TheVariants.{Now};
+ghost use Rattle.nm_slot.specs.declared.phase.Phase.TheVariants.{Serving};
+
+/// One holder: what each call leaves of its server's slot is that server's column of the one phase, and no other slot
+/// changes. So where each slot begins as its column, it is its column at each moment.
+pub fn slots_follow_the_phase()
+    ensures own { (home : Home) (h : List Moment) (x : Moment) → IsHistory home (x ∷ h)
+        → slot_after (slot_now home h x.server) x.step ≡ slot_now home (x ∷ h) x.server }
+    ensures others { (home : Home) (h : List Moment) (x : Moment) → IsHistory home (x ∷ h)
+        → (s : ℕ) → s ≢ x.server → slot_now home (x ∷ h) s ≡ slot_now home h s }
+{}
+
+/// A server serves a file system exactly where the one phase says that it does: so one at most does.
+pub fn one_server_serves()
+    ensures { (home : Home) (h : List Moment) (s : ℕ) → (phase_of (slot_now home h s) ≡ Serving) ↔ (phase_now home.first h ≡ At s) }
+{}
+
+/// Nothing is lost: what is installed is the state of all entries so far, and these are those of the freeze.
+pub fn nothing_is_lost()
+    ensures { (home : Home) (h : List Moment) (dest number : ℕ)
+        → IsHistory home (record { server = dest; step = Installing number Now } ∷ h) → IsWhole home h dest number }
+{}
+
+/// Whatever servers carried the entries out, each reply is the answer after the entries before it.
+pub fn entries_stay_legal()
+    ensures { (home : Home) (h : List Moment) → IsHistory home h → IsLegal home.fs home.grants (entries_now h) }
+{}
+
+/// What the door answers is accounted for by the one phase, the offer that is held there, and where the file system went.
+pub fn the_door_is_accounted_for()
+    ensures { (home : Home) (h : List Moment) (s : ℕ) (a : AnyEnter)
+        → IsHistory home (record { server = s; step = Entering a } ∷ h)
+        → a ≡ door_answer home.fs (phase_now home.first h) s (own_now home.first h s) }
+{}
+
+/// The answers that never come.
+pub fn some_answers_never_come()
+    ensures { (home : Home) (h : List Moment) (x : Moment) → IsHistory home (x ∷ h) → NeverComes x.step }
+{}

@@ -1,0 +1,26 @@
+//! A file system at one server: what this server does with it, and the steps by which it moves to another one
+//! (Transparent State Migration, RFC 7931).
+#![tactic(auto)]
+
+mod answers;
+mod destination;
+mod door;
+mod image;
+mod laws;
+mod pass;
+mod phase;
+mod slot;
+mod source;
+mod stage;
+#[cfg(test)]
+mod tests;
+
+pub use answers::{Abandon, Accept, Answer, Begin, Commit, Enter, Freeze, Install};
+pub use image::Image;
+pub use laws::{
+    entries_stay_legal, nothing_is_lost, one_server_serves, slots_follow_the_phase,
+    some_answers_never_come, the_door_is_accounted_for,
+};
+pub use pass::FsPass;
+pub use phase::Phase;
+pub use slot::Slot;
