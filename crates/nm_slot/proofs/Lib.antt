@@ -1,0 +1,4 @@
+pub mod Agreed
+pub mod Facts
+pub mod StepsHeld
+pub mod Updates
