@@ -138,15 +138,3 @@ accepted p begins move own t s offer made goes new facts = record {
   where
     is_begun : offer.number ≤ begins
     is_begun = began (source_of p) begins move own offer.number offer facts.agreed.numbers made
-
--- ---- a move was given up
-
-given_up_began : (source begins : ℕ) (move : ℕ → Move) (own : ℕ → Own) (n : ℕ) → NumbersAgree source begins move own
-    → (move n).fate ≡ GivenUp → n ≤ begins
-given_up_began source begins move own n numbers over =
-    grind (arith, over, numbers.beyond n, ap (λ (m : Move). m.fate))
-
-pub withdrawn : (p : Phase) (begins : ℕ) (move : ℕ → Move) (own : ℕ → Own) (t : Seen) (s n : ℕ) (dropped : Bool)
-    → (move n).fate ≡ GivenUp → dropped ≡ is_offer_of n (own s).held
-    → Facts p begins move own t → Facts p begins move (put s (λ r. own_withdrawn dropped n (own r)) own) t
-withdrawn p begins move own t s n dropped over is_held facts = ?
