@@ -1,5 +1,7 @@
 pub mod Agreed
 pub mod Facts
+pub mod Inversions
 pub mod StepsHeld
 pub mod StepsSettled
+pub mod StepsSource
 pub mod Updates

@@ -61,7 +61,7 @@ closing_elsewhere begins source dest number n move offer offers made e =
     let none : (move n).offer ≡ None = ap (λ k. (move k).offer) e ∙ ap (λ (m : Move). m.offer) offers.fresh in
     cc
 
-some_same : (a b : Offer) → Some a ≡ Some b → a ≡ b
+pub some_same : (a b : Offer) → Some a ≡ Some b → a ≡ b
 some_same a b e = cc
 
 offers_prepared : (p : Phase) (begins : ℕ) (move : ℕ → Move) (own : ℕ → Own) (t : Seen) (s n : ℕ) (offer : Offer)
