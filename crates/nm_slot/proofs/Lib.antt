@@ -1,6 +1,7 @@
 pub mod Agreed
 pub mod Facts
 pub mod Inversions
+pub mod Kept
 pub mod StepsHeld
 pub mod StepsSettled
 pub mod StepsSource

@@ -1,5 +1,5 @@
 -- Functions that change at one number.
-use Rattle.std.proofs.Common.{◌≡◌, ◌≢◌, ℕ, Bool, true, false, cond, refl, sym, subst, eqb-true, eq-eqb, ne_eqb}
+use Rattle.std.proofs.Common.{◌≡◌, ◌≢◌, ℕ, Bool, true, false, cond, refl, sym, subst, ◌∙◌, eqb-true, eq-eqb, ne_eqb}
 use Rattle.std.specs.Prelude.{◌==◌, if◌then◌else◌}
 use Rattle.std.proofs.lemmas.Bool.{eqb-false}
 
@@ -28,3 +28,11 @@ put_same k old = λ i n. either_way (k == n) (old n) i
     either_way : {B : Type 0} (b : Bool) (x : B) → cond b x x ≡ x
     either_way true x = refl
     either_way false x = refl
+
+-- only what is new at the number counts
+pub put_like : {A : Type 0} (k : ℕ) (new other old : ℕ → A) → new k ≡ other k → put k new old ≡ put k other old
+put_like {A = A} k new other old e = λ i n. by_place (λ m x. x ≡ put k other old m) k new old
+    (e ∙ sym (put_there k other old)) (λ m ne. sym (put_elsewhere k m other old ne)) n i
+
+pub put_unchanged : {A : Type 0} (k : ℕ) (new old : ℕ → A) → new k ≡ old k → put k new old ≡ old
+put_unchanged k new old e = put_like k new old old e ∙ put_same k old
