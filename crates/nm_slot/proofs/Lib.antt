@@ -1,5 +1,6 @@
 pub mod Agreed
 pub mod Facts
+pub mod HistoryFacts
 pub mod Inversions
 pub mod Kept
 pub mod KeptHeld
