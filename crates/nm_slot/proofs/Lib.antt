@@ -4,6 +4,7 @@ pub mod HistoryFacts
 pub mod Inversions
 pub mod Kept
 pub mod KeptHeld
+pub mod PassesOut
 pub mod StepsHeld
 pub mod StepsSettled
 pub mod StepsSource

@@ -1,0 +1,177 @@
+-- The passes that are out at a server are of its epoch, as many as it counts, and there are none but where the file system
+-- is served or closes.
+use Rattle.std.proofs.Common.{◌≡◌, ◌≢◌, ◌<◌, ◌≤◌, ℕ, Bool, true, false, cond, List, [], ◌∷◌, length, refl, sym, subst, ap, ◌∙◌, Option, Some, None, arith, eqb-true, eq-eqb}
+use Rattle.std.specs.Prelude.{◌+◌, ◌-◌, ◌==◌, ◌^◌, ◌&&◌, ◌||◌, nat_le}
+use Rattle.std.specs.List.{list_all, list_any}
+use Rattle.std.proofs.lemmas.Bool.{eqb-false}
+use Rattle.nm_rules.specs.Seen.{Seen, seen}
+use Rattle.nm_slot.specs.declared.answers.Abandon.TheVariants as abandon
+use Rattle.nm_slot.specs.declared.answers.Accept.TheVariants as accept
+use Rattle.nm_slot.specs.declared.answers.Answer.TheVariants as answer
+use Rattle.nm_slot.specs.declared.answers.Begin.TheVariants as begin
+use Rattle.nm_slot.specs.declared.answers.Enter.TheVariants as enter
+use Rattle.nm_slot.specs.declared.answers.Freeze.TheVariants as freeze
+use Rattle.nm_slot.specs.declared.answers.Install.TheVariants as install
+use Rattle.nm_slot.specs.Answers.{entered, let_in, turned_away, frozen as freeze_by, enter_answer, freeze_answer, install_answer}
+use Rattle.nm_slot.specs.Changes.{own_after, own_accepted, own_installed, own_withdrawn}
+use Rattle.nm_slot.specs.History.{Home, dest_from, own_now, tables_now, entries_now, slot_now, passes_now, passes_after, without_one, is_out, IsAnswered, IsDelivered, MayCome, IsHistory}
+use Rattle.nm_slot.specs.Moves.{Move, Fate, move_now}
+use Rattle.nm_slot.specs.Passes.{PassNow}
+use Rattle.nm_slot.specs.Phases.{Phase, Moment, source_of, phase_after, after_at_source, after_elsewhere, phase_now, column}
+use Rattle.nm_slot.specs.Phases.Phase.{At, Closing, Frozen, Passing}
+use Rattle.nm_slot.specs.SlotNow.{Doing, Stage, Offer, Left, Own, SlotView, HandedOver, SlotStep, nothing_yet}
+use Rattle.nm_slot.specs.SlotNow.Doing.{Serves, Closes, Froze}
+use Rattle.nm_slot.specs.SlotNow.Stage.{Away, Here}
+use Rattle.nm_slot.specs.SlotNow.HandedOver.{Committed, Again, Dead}
+use Rattle.nm_slot.specs.SlotNow.SlotStep.{Entering, Leaving, Applying, Beginning, Freezing, Imaging, Committing, Abandoning, Accepting, Installing, Withdrawing}
+use Rattle.nm_slot.proofs.Facts.{Facts}
+use Rattle.nm_slot.proofs.HistoryFacts.{facts_of, begins_now}
+use Rattle.nm_slot.proofs.Inversions.{IsSource, is_source, phase_by}
+use Rattle.nm_slot.proofs.Kept.{next}
+use Rattle.nm_slot.proofs.KeptHeld.{IsHanded, handed_over_to, installs_held, not_done_yet}
+
+-- ---- where passes may be out
+
+-- there are none but at the server that serves or closes
+abbrev pub AreOutAt : Phase → ℕ → List ℕ → Type 0
+AreOutAt (At q) s passes = s ≢ q → passes ≡ []
+AreOutAt (Closing q dest number) s passes = s ≢ q → passes ≡ []
+AreOutAt (Frozen q dest number) s passes = passes ≡ []
+AreOutAt (Passing q dest number) s passes = passes ≡ []
+
+none_out : (p : Phase) (s : ℕ) (passes : List ℕ) → passes ≡ [] → AreOutAt p s passes
+none_out (At q) s passes e = λ ne. e
+none_out (Closing q dest number) s passes e = λ ne. e
+none_out (Frozen q dest number) s passes e = e
+none_out (Passing q dest number) s passes e = e
+
+abbrev is_freezing : SlotStep → Bool
+is_freezing (Freezing (freeze.Frozen number)) = true
+is_freezing _ = false
+
+out_at_source : (p : Phase) (s : ℕ) (step : SlotStep) (passes : List ℕ) → (is_freezing step ≡ true → passes ≡ []) → AreOutAt p s passes
+    → AreOutAt (after_at_source p step) s passes
+out_at_source (At q) s (Beginning here dest (begin.Begun number)) passes none out = out
+out_at_source (At q) s _ passes none out = out
+out_at_source (Closing q dest number) s (Freezing (freeze.Frozen its)) passes none out = none refl
+out_at_source (Closing q dest number) s (Abandoning (abandon.Back its)) passes none out = out
+out_at_source (Closing q dest number) s _ passes none out = out
+out_at_source (Frozen q dest number) s step passes none out = none_out (after_at_source (Frozen q dest number) step) s passes out
+out_at_source (Passing q dest number) s step passes none out = out
+
+out_elsewhere : (p : Phase) (s r : ℕ) (step : SlotStep) (passes : List ℕ) → AreOutAt p s passes → AreOutAt (after_elsewhere p r step) s passes
+out_elsewhere (At q) s r step passes out = out
+out_elsewhere (Closing q dest number) s r step passes out = out
+out_elsewhere (Frozen q dest number) s r step passes out = out
+out_elsewhere (Passing q dest number) s r step passes out = none_out (after_elsewhere (Passing q dest number) r step) s passes out
+
+-- a step at any server
+out_next : (p : Phase) (s r : ℕ) (step : SlotStep) (passes : List ℕ) → (r ≡ source_of p → is_freezing step ≡ true → passes ≡ [])
+    → AreOutAt p s passes → AreOutAt (next p r step) s passes
+out_next p s r step passes none out = by_test (r == source_of p) refl
+  where
+    by_test : (b : Bool) → (r == source_of p) ≡ b → AreOutAt (cond b (after_at_source p step) (after_elsewhere p r step)) s passes
+    by_test true e = out_at_source p s step passes (none (eqb-true r (source_of p) e)) out
+    by_test false e = out_elsewhere p s r step passes out
+
+-- at another server than that of the step
+out_of_others : (p : Phase) (s r : ℕ) (step : SlotStep) (passes : List ℕ) → s ≢ r → AreOutAt p s passes → AreOutAt (next p r step) s passes
+out_of_others p s r step passes ne out = out_next p s r step passes (λ e _. none p e out) out
+  where
+    none : (p : Phase) → r ≡ source_of p → AreOutAt p s passes → passes ≡ []
+    none (At q) e out = out (λ same. ne (same ∙ sym e))
+    none (Closing q dest number) e out = out (λ same. ne (same ∙ sym e))
+    none (Frozen q dest number) e out = out
+    none (Passing q dest number) e out = out
+
+-- ---- how many, and of which epoch
+
+pub record AreCounted (own : Own) (passes : List ℕ) : Type 0 where
+  pub counted : own.out ≡ length passes
+  pub epochs : list_all (λ e. e == own.epoch) passes ≡ true
+
+-- what is known before the steps that change passes or the epoch
+abbrev FitsPasses : SlotStep → Own → List ℕ → Type 0
+FitsPasses (Entering (enter.Entered pass)) own passes = pass.epoch ≡ own.epoch
+FitsPasses (Leaving epoch) own passes = is_out epoch passes ≡ true
+FitsPasses (Installing number install.Now) own passes = passes ≡ []
+FitsPasses _ own passes = Unit {0}
+
+counted_same : (own new : Own) (passes : List ℕ) → new.out ≡ own.out → new.epoch ≡ own.epoch → AreCounted own passes → AreCounted new passes
+counted_same own new passes out epoch it =
+    record { counted = out ∙ it.counted; epochs = subst (λ k. list_all (λ e. e == k) passes ≡ true) (sym epoch) it.epochs }
+
+one_fewer : (epoch : ℕ) (passes : List ℕ) → is_out epoch passes ≡ true → length (without_one epoch passes) ≡ length passes - 1
+one_fewer epoch [] e = cc
+one_fewer epoch (x ∷ xs) e = by_test (x == epoch) e (one_fewer epoch xs)
+  where
+    by_test : (b : Bool) → (b || list_any (λ k. k == epoch) xs) ≡ true
+        → (list_any (λ k. k == epoch) xs ≡ true → length (without_one epoch xs) ≡ length xs - 1)
+        → length (cond b xs (x ∷ without_one epoch xs)) ≡ length (x ∷ xs) - 1
+    by_test true e later = omega arith
+    by_test false e later = longer xs e (later e)
+      where
+        longer : (xs : List ℕ) → list_any (λ k. k == epoch) xs ≡ true → length (without_one epoch xs) ≡ length xs - 1 → length (x ∷ without_one epoch xs) ≡ length (x ∷ xs) - 1
+        longer [] e it = cc
+        longer (y ∷ ys) e it = omega (arith, it)
+
+and_parts : (a b : Bool) → (a && b) ≡ true → (a ≡ true) × (b ≡ true)
+and_parts true b e = (refl, e)
+and_parts false b e = cc
+
+all_but_one : (epoch : ℕ) (p : ℕ → Bool) (passes : List ℕ) → list_all p passes ≡ true → list_all p (without_one epoch passes) ≡ true
+all_but_one epoch p [] e = refl
+all_but_one epoch p (x ∷ xs) e = by_test (x == epoch) (and_parts (p x) (list_all p xs) e) (all_but_one epoch p xs)
+  where
+    by_test : (b : Bool) → (p x ≡ true) × (list_all p xs ≡ true) → (list_all p xs ≡ true → list_all p (without_one epoch xs) ≡ true)
+        → list_all p (cond b xs (x ∷ without_one epoch xs)) ≡ true
+    by_test true both later = both.1
+    by_test false both later = rw (both.0, later both.1) refl
+
+accepted_out : (offer : Offer) (held : Option Offer) (own : Own) → ((own_accepted offer held own).out ≡ own.out) × ((own_accepted offer held own).epoch ≡ own.epoch)
+accepted_out offer None own = (refl, refl)
+accepted_out offer (Some its) own = by_test (its.number == offer.number)
+  where
+    by_test : (b : Bool) → ((cond b own (record own { held = Some offer; known = offer.number })).out ≡ own.out)
+        × ((cond b own (record own { held = Some offer; known = offer.number })).epoch ≡ own.epoch)
+    by_test true = (refl, refl)
+    by_test false = (refl, refl)
+
+installed_out : (number : ℕ) (held : Option Offer) (own : Own) → own.out ≡ 0 → AreCounted (own_installed number held own) []
+installed_out number None own e = record { counted = e; epochs = refl }
+installed_out number (Some offer) own e = record { counted = e; epochs = refl }
+
+counted_after : (step : SlotStep) (dest : ℕ) (own : Own) (passes : List ℕ) → FitsPasses step own passes → AreCounted own passes
+    → AreCounted (own_after step dest own) (passes_after step passes)
+counted_after (Entering (enter.Entered pass)) dest own passes fits it = record {
+  counted = omega (arith, it.counted);
+  epochs = rw (eq-eqb pass.epoch own.epoch fits) it.epochs;
+}
+counted_after (Entering a) dest own passes _ it = it
+counted_after (Leaving epoch) dest own passes fits it = record {
+  counted = omega (arith, it.counted, one_fewer epoch passes fits);
+  epochs = all_but_one epoch (λ e. e == own.epoch) passes it.epochs;
+}
+counted_after (Applying epoch call verdict (answer.Done place reply)) dest own passes fits it = record { counted = it.counted; epochs = it.epochs }
+counted_after (Applying epoch call verdict a) dest own passes _ it = it
+counted_after (Beginning here to (begin.Begun number)) dest own passes fits it = record { counted = it.counted; epochs = it.epochs }
+counted_after (Beginning here to a) dest own passes _ it = it
+counted_after (Freezing a) dest own passes fits it = it
+counted_after (Imaging a) dest own passes fits it = it
+counted_after (Committing number (Committed parties)) dest own passes fits it = record { counted = it.counted; epochs = it.epochs }
+counted_after (Committing number a) dest own passes _ it = it
+counted_after (Abandoning a) dest own passes fits it = it
+counted_after (Accepting offer accept.Held) dest own passes fits it =
+    let same = accepted_out offer own.held own in counted_same own (own_accepted offer own.held own) passes same.0 same.1 it
+counted_after (Accepting offer a) dest own passes _ it = it
+counted_after (Installing number install.Now) dest own passes fits it =
+    subst (λ es. AreCounted (own_installed number own.held own) es) (sym fits) (installed_out number own.held own (it.counted ∙ ap (λ (es : List ℕ). length es) fits))
+counted_after (Installing number a) dest own passes _ it = it
+counted_after (Withdrawing number true) dest own passes fits it = record { counted = it.counted; epochs = it.epochs }
+counted_after (Withdrawing number false) dest own passes fits it = record { counted = it.counted; epochs = it.epochs }
+
+-- ---- each server's passes, over a history
+
+pub record PassesAreOut (p : Phase) (own : ℕ → Own) (passes : ℕ → List ℕ) : Type 0 where
+  pub out : (s : ℕ) → AreOutAt p s (passes s)
+  pub counted : (s : ℕ) → AreCounted (own s) (passes s)
