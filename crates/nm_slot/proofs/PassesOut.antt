@@ -12,10 +12,11 @@ use Rattle.nm_slot.specs.declared.answers.Begin.TheVariants as begin
 use Rattle.nm_slot.specs.declared.answers.Enter.TheVariants as enter
 use Rattle.nm_slot.specs.declared.answers.Freeze.TheVariants as freeze
 use Rattle.nm_slot.specs.declared.answers.Install.TheVariants as install
-use Rattle.nm_slot.specs.Answers.{entered, let_in, turned_away, frozen as freeze_by, enter_answer, freeze_answer, install_answer}
+use Rattle.nm_slot.specs.Answers.{installed as install_by, entered, let_in, turned_away, frozen as freeze_by, enter_answer, freeze_answer, install_answer}
 use Rattle.nm_slot.specs.Changes.{own_after, own_accepted, own_installed, own_withdrawn}
 use Rattle.nm_slot.specs.History.{Home, dest_from, own_now, tables_now, entries_now, slot_now, passes_now, passes_after, without_one, is_out, IsAnswered, IsDelivered, MayCome, IsHistory}
-use Rattle.nm_slot.specs.Moves.{Move, Fate, move_now}
+use Rattle.nm_slot.specs.Moves.{Move, Fate, move_now, is_handed}
+use Rattle.nm_slot.specs.Moves.Fate.{Done}
 use Rattle.nm_slot.specs.Passes.{PassNow}
 use Rattle.nm_slot.specs.Phases.{Phase, Moment, source_of, phase_after, after_at_source, after_elsewhere, phase_now, column}
 use Rattle.nm_slot.specs.Phases.Phase.{At, Closing, Frozen, Passing}
@@ -26,9 +27,10 @@ use Rattle.nm_slot.specs.SlotNow.HandedOver.{Committed, Again, Dead}
 use Rattle.nm_slot.specs.SlotNow.SlotStep.{Entering, Leaving, Applying, Beginning, Freezing, Imaging, Committing, Abandoning, Accepting, Installing, Withdrawing}
 use Rattle.nm_slot.proofs.Facts.{Facts}
 use Rattle.nm_slot.proofs.HistoryFacts.{facts_of, begins_now}
-use Rattle.nm_slot.proofs.Inversions.{IsSource, is_source, phase_by}
+use Rattle.nm_slot.proofs.Inversions.{IsSource, is_source, phase_by, same_phase}
 use Rattle.nm_slot.proofs.Kept.{next}
 use Rattle.nm_slot.proofs.KeptHeld.{IsHanded, handed_over_to, installs_held, not_done_yet}
+use Rattle.nm_slot.proofs.Updates.{put, by_place, put_there, put_elsewhere}
 
 -- ---- where passes may be out
 
@@ -175,3 +177,118 @@ counted_after (Withdrawing number false) dest own passes fits it = record { coun
 pub record PassesAreOut (p : Phase) (own : ℕ → Own) (passes : ℕ → List ℕ) : Type 0 where
   pub out : (s : ℕ) → AreOutAt p s (passes s)
   pub counted : (s : ℕ) → AreCounted (own s) (passes s)
+
+-- ---- what an answer says of the passes
+
+-- a pass is given where the file system is served, of its epoch
+record IsEntered (p : Phase) (s : ℕ) (own : Own) (pass : PassNow) : Type 0 where
+  phase : p ≡ At s
+  epoch : pass.epoch ≡ own.epoch
+
+pass_epoch : (fs : ℕ) (own : Own) (pass : PassNow) (full : Bool)
+    → enter.Entered pass ≡ cond full (enter.Full own.out) (enter.Entered (record { fs = fs; epoch = own.epoch })) → pass.epoch ≡ own.epoch
+pass_epoch fs own pass true a = cc
+pass_epoch fs own pass false a = let same : pass ≡ record { fs = fs; epoch = own.epoch } = cc in ap (λ (x : PassNow). x.epoch) same
+
+not_turned_away : (held : Option Offer) (left : Option Left) (pass : PassNow) → enter.Entered pass ≡ turned_away held left → ⊥
+not_turned_away None None pass a = cc
+not_turned_away None (Some left) pass a = cc
+not_turned_away (Some offer) left pass a = cc
+
+is_entered : (p : Phase) (t : Seen) (s fs : ℕ) (own : Own) (pass : PassNow) (stage : Stage) → column p t s ≡ stage
+    → enter.Entered pass ≡ entered fs stage own → IsEntered p s own pass
+is_entered p t s fs own pass Away e a = absurd (not_turned_away own.held own.left pass a)
+is_entered p t s fs own pass (Here (Closes dest number) state) e a = cc
+is_entered p t s fs own pass (Here (Froze dest number) state) e a = cc
+is_entered p t s fs own pass (Here Serves state) e a =
+    record { phase = (is_source p t s Serves state e).phase; epoch = pass_epoch fs own pass (nat_le (2 ^ 63) own.out) a }
+
+none_of : (passes : List ℕ) → length passes ≡ 0 → passes ≡ []
+none_of [] e = refl
+none_of (x ∷ xs) e = absurd (omega (arith, e))
+
+none_waiting : (n number : ℕ) (own : Own) (passes : List ℕ) (b : Bool) → (own.out == 0) ≡ b → AreCounted own passes
+    → freeze.Frozen n ≡ cond b (freeze.Frozen number) (freeze.Waiting own.out) → passes ≡ []
+none_waiting n number own passes true e it a = none_of passes (sym it.counted ∙ eqb-true own.out 0 e)
+none_waiting n number own passes false e it a = cc
+
+none_frozen : (p : Phase) (t : Seen) (s n : ℕ) (own : Own) (passes : List ℕ) (stage : Stage) → column p t s ≡ stage
+    → freeze.Frozen n ≡ freeze_by stage own → AreCounted own passes → AreOutAt p s passes → passes ≡ []
+none_frozen p t s n own passes Away e a it out = cc
+none_frozen p t s n own passes (Here Serves state) e a it out = cc
+none_frozen p t s n own passes (Here (Closes dest number) state) e a it out = none_waiting n number own passes (own.out == 0) refl it a
+none_frozen p t s n own passes (Here (Froze dest number) state) e a it out =
+    subst (λ q. AreOutAt q s passes) (is_source p t s (Froze dest number) state e).phase out
+
+none_installed : (p : Phase) (begins : ℕ) (move : ℕ → Move) (own : ℕ → Own) (t : Seen) (s n : ℕ) (passes : List ℕ)
+    → install.Now ≡ install_by n (own s) → is_handed (move n).fate ≡ true → (move n).dest ≡ s → Facts p begins move own t
+    → AreOutAt p s passes → passes ≡ []
+none_installed p begins move own t s n passes a handed goes facts out =
+    let it = installs_held n (own s) a in
+    let not_done : (move n).fate ≢ Done = not_done_yet move s (own s).known n it.offer it.number (facts.agreed.held.held s it.offer it.holds) in
+    let passing = handed_over_to p begins move own t s n handed not_done goes facts in
+    subst (λ q. AreOutAt q s passes) passing.phase out
+
+-- ---- a step
+
+fits : (p : Phase) (begins : ℕ) (move : ℕ → Move) (own : ℕ → Own) (t : Seen) (fs s : ℕ) (passes : List ℕ) (step : SlotStep)
+    → IsAnswered (record { fs = fs; stage = column p t s; own = own s }) step → IsDelivered move passes s step
+    → Facts p begins move own t → AreOutAt p s passes → FitsPasses step (own s) passes
+unfolding enter_answer install_answer
+fits p begins move own t fs s passes (Entering (enter.Entered pass)) a d facts out = (is_entered p t s fs (own s) pass (column p t s) refl a).epoch
+fits p begins move own t fs s passes (Leaving epoch) a d facts out = d
+fits p begins move own t fs s passes (Installing n install.Now) a d facts out = none_installed p begins move own t s n passes a d.0 d.1 facts out
+fits p begins move own t fs s passes _ a d facts out = tt
+
+freezes : (p : Phase) (t : Seen) (fs s : ℕ) (own : Own) (passes : List ℕ) (step : SlotStep)
+    → IsAnswered (record { fs = fs; stage = column p t s; own = own }) step → AreCounted own passes → AreOutAt p s passes
+    → is_freezing step ≡ true → passes ≡ []
+unfolding freeze_answer
+freezes p t fs s own passes (Freezing (freeze.Frozen n)) a it out e = none_frozen p t s n own passes (column p t s) refl a it out
+freezes p t fs s own passes _ a it out e = cc
+
+fewer_out : (p : Phase) (s : ℕ) (passes fewer : List ℕ) → (passes ≡ [] → fewer ≡ []) → AreOutAt p s passes → AreOutAt p s fewer
+fewer_out (At q) s passes fewer less out = λ ne. less (out ne)
+fewer_out (Closing q dest number) s passes fewer less out = λ ne. less (out ne)
+fewer_out (Frozen q dest number) s passes fewer less out = less out
+fewer_out (Passing q dest number) s passes fewer less out = less out
+
+out_here : (p : Phase) (t : Seen) (fs s : ℕ) (own : Own) (passes : List ℕ) (step : SlotStep)
+    → IsAnswered (record { fs = fs; stage = column p t s; own = own }) step → AreOutAt (next p s step) s passes
+    → AreOutAt (next p s step) s (passes_after step passes)
+unfolding enter_answer
+out_here p t fs s own passes (Entering (enter.Entered pass)) a out =
+    subst (λ q. AreOutAt q s (pass.epoch ∷ passes))
+    (sym (same_phase p s (Entering (enter.Entered pass)) refl ∙ (is_entered p t s fs own pass (column p t s) refl a).phase)) (λ ne. absurd (ne refl))
+out_here p t fs s own passes (Leaving epoch) a out =
+    fewer_out (next p s (Leaving epoch)) s passes (without_one epoch passes) (λ e. ap (without_one epoch) e) out
+out_here p t fs s own passes _ a out = out
+
+passes_kept : (p : Phase) (begins : ℕ) (move : ℕ → Move) (own : ℕ → Own) (t : Seen) (fs s : ℕ) (passes : ℕ → List ℕ) (step : SlotStep)
+    → IsAnswered (record { fs = fs; stage = column p t s; own = own s }) step → IsDelivered move (passes s) s step
+    → Facts p begins move own t → PassesAreOut p own passes
+    → PassesAreOut (next p s step) (put s (λ r. own_after step (dest_from p r) (own r)) own) (put s (λ r. passes_after step (passes r)) passes)
+passes_kept p begins move own t fs s passes step a d facts are = record {
+  out = by_place (λ r ps. AreOutAt (next p s step) r ps) s left passes
+      (out_here p t fs s (own s) (passes s) step a (out_next p s s step (passes s) (λ _ e. freezes p t fs s (own s) (passes s) step a (are.counted s) (are.out s) e) (are.out s)))
+      (λ r ne. out_of_others p r s step (passes r) (λ e. ne (sym e)) (are.out r));
+  counted = by_place (λ r o. AreCounted o (put s left passes r)) s after own
+      (subst (λ ps. AreCounted (after s) ps) (sym (put_there s left passes))
+      (counted_after step (dest_from p s) (own s) (passes s) (fits p begins move own t fs s (passes s) step a d facts (are.out s)) (are.counted s)))
+      (λ r ne. subst (λ ps. AreCounted (own r) ps) (sym (put_elsewhere s r left passes ne)) (are.counted r));
+}
+  where
+    left : ℕ → List ℕ
+    left r = passes_after step (passes r)
+
+    after : ℕ → Own
+    after r = own_after step (dest_from p r) (own r)
+
+-- They are so in every history.
+pub passes_of : (home : Home) (h : List Moment) → IsHistory home h
+    → PassesAreOut (phase_now home.first h) (λ s. own_now home.first h s) (λ s. passes_now h s)
+unfolding phase_now own_now passes_now slot_now
+passes_of home [] it = record { out = λ s ne. refl; counted = λ s. record { counted = refl; epochs = refl } }
+passes_of home (x ∷ earlier) it =
+    passes_kept (phase_now home.first earlier) (begins_now earlier) (λ n. move_now earlier n) (λ s. own_now home.first earlier s) (tables_now home earlier) home.fs x.server
+    (λ s. passes_now earlier s) x.step it.0.answered it.0.delivered (facts_of home earlier it.1) (passes_of home earlier it.1)
