@@ -1,6 +1,7 @@
 pub mod Agreed
 pub mod Facts
 pub mod HistoryFacts
+pub mod HistoryLaws
 pub mod Inversions
 pub mod Kept
 pub mod KeptHeld
