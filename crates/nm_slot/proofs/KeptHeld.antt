@@ -116,7 +116,7 @@ is_passing (Passing q dest number) begins move own t s n latest handed goes offe
     let to : dest ≡ s = sym offers.goes_to ∙ ap (λ k. (move k).dest) same ∙ goes in
     record { source = q; phase = ap (λ d. Passing q d number) to ∙ ap (λ k. Passing q s k) same }
 
-pub handed_over_to : (p : Phase) (begins : ℕ) (move : ℕ → Move) (own : ℕ → Own) (t : Seen) (s n : ℕ)
+handed_over_to : (p : Phase) (begins : ℕ) (move : ℕ → Move) (own : ℕ → Own) (t : Seen) (s n : ℕ)
     → is_handed (move n).fate ≡ true → (move n).fate ≢ Done → (move n).dest ≡ s → Facts p begins move own t → IsHanded p s n
 handed_over_to p begins move own t s n handed not_done goes facts =
     let fate : (move n).fate ≡ Handed = handed_fate (move n).fate handed not_done in
@@ -145,23 +145,50 @@ is_installed n known (Some offer) a = now_holds n offer (offer.number == n) (nat
 pub installs_held : (n : ℕ) (own : Own) → install.Now ≡ install_by n own → IsInstalled n own.held
 installs_held n own a = is_installed n own.installed own.held a
 
-pub not_done_yet : (move : ℕ → Move) (s known n : ℕ) (offer : Offer) → offer.number ≡ n → IsFor s known offer (move offer.number) → (move n).fate ≢ Done
+not_done_yet : (move : ℕ → Move) (s known n : ℕ) (offer : Offer) → offer.number ≡ n → IsFor s known offer (move offer.number) → (move n).fate ≢ Done
 not_done_yet move s known n offer e it = subst (λ k. (move k).fate ≢ Done) e it.not_done
 
-passed_to : (q s n : ℕ) → q ≢ s → next (Passing q s n) s (Installing n install.Now) ≡ At s
-passed_to q s n apart = rw (ne_eqb s q (λ e. apart (sym e)), eq-eqb s s refl, eq-eqb n n refl) refl
+-- What is installed was handed over to that server by this move, and is the state as it is.
+pub record IsReady (p : Phase) (t : Seen) (s n : ℕ) (o : Option Offer) : Type 0 where
+  pub source : ℕ
+  pub offer : Offer
+  pub phase : p ≡ Passing source s n
+  pub apart : source ≢ s
+  pub holds : o ≡ Some offer
+  pub number : offer.number ≡ n
+  pub state : offer.state ≡ t
+
+pub is_ready : (p : Phase) (begins : ℕ) (move : ℕ → Move) (own : ℕ → Own) (t : Seen) (s n : ℕ) → install.Now ≡ install_by n (own s)
+    → is_handed (move n).fate ≡ true → (move n).dest ≡ s → Facts p begins move own t → IsReady p t s n (own s).held
+is_ready p begins move own t s n a handed goes facts =
+    let it = installs_held n (own s) a in
+    let not_done : (move n).fate ≢ Done = not_done_yet move s (own s).known n it.offer it.number (facts.agreed.held.held s it.offer it.holds) in
+    let passing = handed_over_to p begins move own t s n handed not_done goes facts in
+    let here : Facts (Passing passing.source s n) begins move own t = subst (λ q. Facts q begins move own t) passing.phase facts in
+    record {
+      source = passing.source;
+      offer = offer_now n t (own passing.source);
+      phase = passing.phase;
+      apart = here.offers.apart;
+      holds = here.offers.ready;
+      number = refl;
+      state = refl;
+    }
+
+pub passed_to : (p : Phase) (t : Seen) (s n : ℕ) (o : Option Offer) → IsReady p t s n o → next p s (Installing n install.Now) ≡ At s
+passed_to p t s n o ready = ap (λ q. next q s (Installing n install.Now)) ready.phase ∙ by_tests
+  where
+    by_tests : next (Passing ready.source s n) s (Installing n install.Now) ≡ At s
+    by_tests = rw (ne_eqb s ready.source (λ e. ready.apart (sym e)), eq-eqb s s refl, eq-eqb n n refl) refl
 
 pub now_kept : (p : Phase) (begins : ℕ) (move : ℕ → Move) (own : ℕ → Own) (t : Seen) (s n : ℕ) → install.Now ≡ install_by n (own s)
     → is_handed (move n).fate ≡ true → (move n).dest ≡ s
     → Facts p begins move own t
     → Facts (next p s (Installing n install.Now)) begins (put n (λ k. done_move (move k)) move) (put s (λ r. own_installed n (own r).held (own r)) own) t
 now_kept p begins move own t s n a handed goes facts =
-    let it = installs_held n (own s) a in
-    let not_done : (move n).fate ≢ Done = not_done_yet move s (own s).known n it.offer it.number (facts.agreed.held.held s it.offer it.holds) in
-    let passing = handed_over_to p begins move own t s n handed not_done goes facts in
-    let here : Facts (Passing passing.source s n) begins move own t = subst (λ q. Facts q begins move own t) passing.phase facts in
+    let ready = is_ready p begins move own t s n a handed goes facts in
     subst (λ q. Facts q begins (put n (λ k. done_move (move k)) move) (put s (λ r. own_installed n (own r).held (own r)) own) t)
-    (sym (ap (λ q. next q s (Installing n install.Now)) passing.phase ∙ passed_to passing.source s n here.offers.apart))
+    (sym (passed_to p t s n (own s).held ready))
     (subst (λ o. Facts (At s) begins (put n (λ k. done_move (move k)) move) o t)
-    (sym (put_like s (λ r. own_installed n (own r).held (own r)) (λ r. own_serving n it.offer (own r)) own (ap (λ h. own_installed n h (own s)) it.holds)))
-    (installed passing.source s n begins move own t it.offer it.holds it.number here))
+    (sym (put_like s (λ r. own_installed n (own r).held (own r)) (λ r. own_serving n ready.offer (own r)) own (ap (λ h. own_installed n h (own s)) ready.holds)))
+    (installed ready.source s n begins move own t ready.offer ready.holds ready.number (subst (λ q. Facts q begins move own t) ready.phase facts)))

@@ -29,7 +29,7 @@ use Rattle.nm_slot.proofs.Facts.{Facts}
 use Rattle.nm_slot.proofs.HistoryFacts.{facts_of, begins_now}
 use Rattle.nm_slot.proofs.Inversions.{IsSource, is_source, phase_by, same_phase}
 use Rattle.nm_slot.proofs.Kept.{next}
-use Rattle.nm_slot.proofs.KeptHeld.{IsHanded, handed_over_to, installs_held, not_done_yet}
+use Rattle.nm_slot.proofs.KeptHeld.{is_ready}
 use Rattle.nm_slot.proofs.Updates.{put, by_place, put_there, put_elsewhere}
 
 -- ---- where passes may be out
@@ -224,10 +224,7 @@ none_installed : (p : Phase) (begins : ℕ) (move : ℕ → Move) (own : ℕ →
     → install.Now ≡ install_by n (own s) → is_handed (move n).fate ≡ true → (move n).dest ≡ s → Facts p begins move own t
     → AreOutAt p s passes → passes ≡ []
 none_installed p begins move own t s n passes a handed goes facts out =
-    let it = installs_held n (own s) a in
-    let not_done : (move n).fate ≢ Done = not_done_yet move s (own s).known n it.offer it.number (facts.agreed.held.held s it.offer it.holds) in
-    let passing = handed_over_to p begins move own t s n handed not_done goes facts in
-    subst (λ q. AreOutAt q s passes) passing.phase out
+    subst (λ q. AreOutAt q s passes) (is_ready p begins move own t s n a handed goes facts).phase out
 
 -- ---- a step
 
