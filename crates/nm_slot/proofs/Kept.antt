@@ -69,7 +69,7 @@ begun_kept p begins move own t s dest n (Here Serves state) e a facts =
 
 -- ---- it freezes
 
-froze_number : (number n : ℕ) (own : Own) (b : Bool) → freeze.Frozen n ≡ cond b (freeze.Frozen number) (freeze.Waiting own.out) → n ≡ number
+pub froze_number : (number n : ℕ) (own : Own) (b : Bool) → freeze.Frozen n ≡ cond b (freeze.Frozen number) (freeze.Waiting own.out) → n ≡ number
 froze_number number n own true a = cc
 froze_number number n own false a = cc
 
@@ -105,7 +105,7 @@ imaged_kept p begins move own t s offer (Here (Froze dest number) state) e a fac
 
 -- ---- it is handed over
 
-committed_number : (its n : ℕ) (parties all : List Party) (known : ℕ) (b : Bool) → (its == n) ≡ b → Committed parties ≡ cond b (Committed all) (Dead known) → its ≡ n
+pub committed_number : (its n : ℕ) (parties all : List Party) (known : ℕ) (b : Bool) → (its == n) ≡ b → Committed parties ≡ cond b (Committed all) (Dead known) → its ≡ n
 committed_number its n parties all known true e a = eqb-true its n e
 committed_number its n parties all known false e a = cc
 
@@ -113,7 +113,7 @@ not_again : (b : Bool) (parties : List Party) (known : ℕ) → Committed partie
 not_again true parties known a = cc
 not_again false parties known a = cc
 
-not_away : (n : ℕ) (parties : List Party) (own : Own) (held : Option Offer) → Committed parties ≡ committed_away n held own → ⊥
+pub not_away : (n : ℕ) (parties : List Party) (own : Own) (held : Option Offer) → Committed parties ≡ committed_away n held own → ⊥
 not_away n parties own None a = not_again (is_left_by n own.left) parties own.known a
 not_away n parties own (Some offer) a = cc
 
@@ -136,7 +136,7 @@ committed_kept p begins move own t s n parties gone (Here (Froze dest number) st
 
 -- ---- it is given up
 
-not_back : (n : ℕ) (held : Option Offer) (left : Option Left) → abandon.Back n ≡ abandoned_away held left → ⊥
+pub not_back : (n : ℕ) (held : Option Offer) (left : Option Left) → abandon.Back n ≡ abandoned_away held left → ⊥
 not_back n None None a = cc
 not_back n None (Some left) a = cc
 not_back n (Some offer) left a = cc

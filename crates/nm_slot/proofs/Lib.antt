@@ -1,11 +1,13 @@
 pub mod Agreed
 pub mod Facts
+pub mod Freezes
 pub mod HistoryFacts
 pub mod HistoryLaws
 pub mod Inversions
 pub mod Kept
 pub mod KeptHeld
 pub mod PassesOut
+pub mod SlotsFollow
 pub mod StepsHeld
 pub mod StepsSettled
 pub mod StepsSource

@@ -1,0 +1,187 @@
+-- What a call leaves of its server's slot is that server's column of the one phase, and no other slot changes.
+use Rattle.std.proofs.Common.{◌≡◌, ◌≢◌, ℕ, Bool, true, false, cond, List, [], ◌∷◌, refl, sym, subst, ap, ◌∙◌, Option, Some, None, arith, eqb-true, eq-eqb, ne_eqb}
+use Rattle.std.specs.Prelude.{◌+◌, ◌==◌, ◌&&◌}
+use Rattle.nm_rules.specs.Parties.{Party}
+use Rattle.nm_rules.specs.Past.{Past}
+use Rattle.nm_rules.specs.Seen.{Seen, seen, after}
+use Rattle.nm_rules.specs.declared.calls.Event.{Event}
+use Rattle.nm_rules.specs.declared.calls.Event.TheVariants.{Asked}
+use Rattle.nm_rules.specs.declared.calls.Reply.{Reply}
+use Rattle.nm_slot.specs.declared.answers.Abandon.TheVariants as abandon
+use Rattle.nm_slot.specs.declared.answers.Accept.TheVariants as accept
+use Rattle.nm_slot.specs.declared.answers.Answer.TheVariants as answer
+use Rattle.nm_slot.specs.declared.answers.Begin.TheVariants as begin
+use Rattle.nm_slot.specs.declared.answers.Freeze.TheVariants as freeze
+use Rattle.nm_slot.specs.declared.answers.Install.TheVariants as install
+use Rattle.nm_slot.specs.Answers.{begun as begin_by, frozen as freeze_by, committed as commit_by, abandoned as abandon_by, applied, apply_answer, begin_answer, freeze_answer, commit_answer, abandon_answer, install_answer}
+use Rattle.nm_slot.specs.Changes.{with_doing, dest_at, stage_called, stage_of_offer, stage_after, own_after, slot_after}
+use Rattle.nm_slot.specs.History.{Home, dest_from, own_now, tables_now, entries_now, with_entry, slot_now, passes_now, IsAnswered, IsDelivered, MayCome, IsHistory}
+use Rattle.nm_slot.specs.Moves.{Move, move_now}
+use Rattle.nm_slot.specs.Phases.{Phase, Moment, source_of, phase_after, after_at_source, after_elsewhere, phase_now, column}
+use Rattle.nm_slot.specs.Phases.Phase.{At, Closing, Frozen, Passing}
+use Rattle.nm_slot.specs.SlotNow.{Doing, Stage, Offer, Own, SlotView, HandedOver, SlotStep}
+use Rattle.nm_slot.specs.SlotNow.Doing.{Serves, Closes, Froze}
+use Rattle.nm_slot.specs.SlotNow.Stage.{Away, Here}
+use Rattle.nm_slot.specs.SlotNow.HandedOver.{Committed, Again, Dead}
+use Rattle.nm_slot.specs.SlotNow.SlotStep.{Entering, Leaving, Applying, Beginning, Freezing, Imaging, Committing, Abandoning, Accepting, Installing, Withdrawing}
+use Rattle.nm_slot.proofs.Facts.{Facts}
+use Rattle.nm_slot.proofs.HistoryFacts.{facts_of, begins_now}
+use Rattle.nm_slot.proofs.Inversions.{IsSource, is_source, phase_by, at_source, same_phase, changes_phase}
+use Rattle.nm_slot.proofs.Kept.{next, froze_number, committed_number, not_away, not_back}
+use Rattle.nm_slot.proofs.KeptHeld.{IsReady, is_ready, passed_to}
+use Rattle.nm_slot.proofs.Updates.{put, put_there, put_elsewhere}
+
+-- ---- the server of the step
+
+pub column_at : (s : ℕ) (doing : Doing) (t : Seen) → column (phase_by s doing) t s ≡ Here doing t
+column_at s Serves t = rw (eq-eqb s s refl) refl
+column_at s (Closes dest number) t = rw (eq-eqb s s refl) refl
+column_at s (Froze dest number) t = rw (eq-eqb s s refl) refl
+
+-- what a source does with the state after the step
+now_does : (p q : Phase) (t state : Seen) (s : ℕ) (step : SlotStep) (doing : Doing) → p ≡ q → s ≡ source_of q → after_at_source q step ≡ phase_by s doing
+    → state ≡ t → Here doing state ≡ column (next p s step) t s
+now_does p q t state s step doing e at does tables =
+    ap (λ x. Here doing x) tables ∙ sym (column_at s doing t)
+    ∙ ap (λ r. column r t s) (sym (ap (λ r. next r s step) e ∙ at_source q s step at ∙ does))
+
+begun_follows : (p : Phase) (t : Seen) (s here dest n : ℕ) (own : Own) (stage : Stage) → column p t s ≡ stage → begin.Begun n ≡ begin_by here dest stage own
+    → with_doing (Closes dest n) stage ≡ column (next p s (Beginning here dest (begin.Begun n))) t s
+begun_follows p t s here dest n own Away e a = cc
+begun_follows p t s here dest n own (Here (Closes to its) state) e a = cc
+begun_follows p t s here dest n own (Here (Froze to its) state) e a = cc
+begun_follows p t s here dest n own (Here Serves state) e a =
+    let it = is_source p t s Serves state e in
+    now_does p (At s) t state s (Beginning here dest (begin.Begun n)) (Closes dest n) it.phase refl refl it.tables
+
+frozen_follows : (p : Phase) (t : Seen) (s n : ℕ) (own : Own) (stage : Stage) → column p t s ≡ stage → freeze.Frozen n ≡ freeze_by stage own
+    → with_doing (Froze (dest_at stage) n) stage ≡ column (next p s (Freezing (freeze.Frozen n))) t s
+frozen_follows p t s n own Away e a = cc
+frozen_follows p t s n own (Here Serves state) e a = cc
+frozen_follows p t s n own (Here (Closes dest number) state) e a =
+    let it = is_source p t s (Closes dest number) state e in
+    ap (λ k. Here (Froze dest k) state) (froze_number number n own (own.out == 0) a)
+    ∙ now_does p (Closing s dest number) t state s (Freezing (freeze.Frozen n)) (Froze dest number) it.phase refl refl it.tables
+frozen_follows p t s n own (Here (Froze dest number) state) e a =
+    let it = is_source p t s (Froze dest number) state e in
+    let same : n ≡ number = cc in
+    ap (λ k. Here (Froze dest k) state) same
+    ∙ now_does p (Frozen s dest number) t state s (Freezing (freeze.Frozen n)) (Froze dest number) it.phase refl refl it.tables
+
+committed_follows : (p : Phase) (t : Seen) (s n : ℕ) (parties : List Party) (own : Own) (stage : Stage) → column p t s ≡ stage → Committed parties ≡ commit_by n stage own
+    → Away ≡ column (next p s (Committing n (Committed parties))) t s
+committed_follows p t s n parties own Away e a = absurd (not_away n parties own own.held a)
+committed_follows p t s n parties own (Here Serves state) e a = cc
+committed_follows p t s n parties own (Here (Closes dest number) state) e a = cc
+committed_follows p t s n parties own (Here (Froze dest number) state) e a =
+    let it = is_source p t s (Froze dest number) state e in
+    ap (λ r. column r t s) (sym (ap (λ r. next r s (Committing n (Committed parties))) it.phase ∙ at_source (Frozen s dest number) s (Committing n (Committed parties)) refl))
+
+back_follows : (p : Phase) (t : Seen) (s n : ℕ) (own : Own) (stage : Stage) → column p t s ≡ stage → abandon.Back n ≡ abandon_by stage own
+    → with_doing Serves stage ≡ column (next p s (Abandoning (abandon.Back n))) t s
+back_follows p t s n own Away e a = absurd (not_back n own.held own.left a)
+back_follows p t s n own (Here Serves state) e a = cc
+back_follows p t s n own (Here (Closes dest number) state) e a =
+    let it = is_source p t s (Closes dest number) state e in
+    now_does p (Closing s dest number) t state s (Abandoning (abandon.Back n)) Serves it.phase refl refl it.tables
+back_follows p t s n own (Here (Froze dest number) state) e a =
+    let it = is_source p t s (Froze dest number) state e in
+    now_does p (Frozen s dest number) t state s (Abandoning (abandon.Back n)) Serves it.phase refl refl it.tables
+
+now_follows : (p : Phase) (t : Seen) (s n : ℕ) (o : Option Offer) (stage : Stage) → IsReady p t s n o
+    → stage_of_offer o stage ≡ column (next p s (Installing n install.Now)) t s
+now_follows p t s n o stage ready =
+    ap (λ x. stage_of_offer x stage) ready.holds ∙ ap (λ x. Here Serves x) ready.state ∙ sym (column_at s Serves t)
+    ∙ ap (λ r. column r t s) (sym (passed_to p t s n o ready))
+
+-- a call is an entry, and changes the state where the file system is
+called_column : (p : Phase) (t : Seen) (s : ℕ) (event : Event) (reply : Reply) → stage_called event reply (column p t s) ≡ column p (after t event reply) s
+called_column (At q) t s event reply = by_test (s == q)
+  where
+    by_test : (b : Bool) → stage_called event reply (cond b (Here Serves t) Away) ≡ cond b (Here Serves (after t event reply)) Away
+    by_test true = refl
+    by_test false = refl
+called_column (Closing q dest number) t s event reply = by_test (s == q)
+  where
+    by_test : (b : Bool) → stage_called event reply (cond b (Here (Closes dest number) t) Away) ≡ cond b (Here (Closes dest number) (after t event reply)) Away
+    by_test true = refl
+    by_test false = refl
+called_column (Frozen q dest number) t s event reply = by_test (s == q)
+  where
+    by_test : (b : Bool) → stage_called event reply (cond b (Here (Froze dest number) t) Away) ≡ cond b (Here (Froze dest number) (after t event reply)) Away
+    by_test true = refl
+    by_test false = refl
+called_column (Passing q dest number) t s event reply = refl
+
+same_column : (p : Phase) (t : Seen) (s : ℕ) (step : SlotStep) → changes_phase step ≡ false → column p t s ≡ column (next p s step) t s
+same_column p t s step e = ap (λ q. column q t s) (sym (same_phase p s step e))
+
+stage_follows : (p : Phase) (begins : ℕ) (move : ℕ → Move) (own : ℕ → Own) (fs : ℕ) (grants : Bool) (entries : Past) (passes : List ℕ) (s : ℕ) (step : SlotStep)
+    → IsAnswered (record { fs = fs; stage = column p (seen fs grants entries) s; own = own s }) step → IsDelivered move passes s step
+    → Facts p begins move own (seen fs grants entries)
+    → stage_after step (own s).held (column p (seen fs grants entries) s) ≡ column (next p s step) (seen fs grants (with_entry step entries)) s
+unfolding apply_answer begin_answer freeze_answer commit_answer abandon_answer install_answer seen
+stage_follows p begins move own fs grants entries passes s (Applying epoch call verdict (answer.Done place reply)) a d facts =
+    called_column p (seen fs grants entries) s (Asked call verdict) reply
+    ∙ same_column p (after (seen fs grants entries) (Asked call verdict) reply) s (Applying epoch call verdict (answer.Done place reply)) refl
+stage_follows p begins move own fs grants entries passes s (Beginning here dest (begin.Begun n)) a d facts =
+    begun_follows p (seen fs grants entries) s here dest n (own s) (column p (seen fs grants entries) s) refl a
+stage_follows p begins move own fs grants entries passes s (Freezing (freeze.Frozen n)) a d facts =
+    frozen_follows p (seen fs grants entries) s n (own s) (column p (seen fs grants entries) s) refl a
+stage_follows p begins move own fs grants entries passes s (Committing n (Committed parties)) a d facts =
+    committed_follows p (seen fs grants entries) s n parties (own s) (column p (seen fs grants entries) s) refl a
+stage_follows p begins move own fs grants entries passes s (Abandoning (abandon.Back n)) a d facts =
+    back_follows p (seen fs grants entries) s n (own s) (column p (seen fs grants entries) s) refl a
+stage_follows p begins move own fs grants entries passes s (Installing n install.Now) a d facts =
+    now_follows p (seen fs grants entries) s n (own s).held (column p (seen fs grants entries) s) (is_ready p begins move own (seen fs grants entries) s n a d.0 d.1 facts)
+stage_follows p begins move own fs grants entries passes s (Applying epoch call verdict x) a d facts = same_column p (seen fs grants entries) s (Applying epoch call verdict x) refl
+stage_follows p begins move own fs grants entries passes s (Beginning here dest x) a d facts = same_column p (seen fs grants entries) s (Beginning here dest x) refl
+stage_follows p begins move own fs grants entries passes s (Freezing x) a d facts = same_column p (seen fs grants entries) s (Freezing x) refl
+stage_follows p begins move own fs grants entries passes s (Committing n x) a d facts = same_column p (seen fs grants entries) s (Committing n x) refl
+stage_follows p begins move own fs grants entries passes s (Abandoning x) a d facts = same_column p (seen fs grants entries) s (Abandoning x) refl
+stage_follows p begins move own fs grants entries passes s (Installing n x) a d facts = same_column p (seen fs grants entries) s (Installing n x) refl
+stage_follows p begins move own fs grants entries passes s (Entering x) a d facts = same_column p (seen fs grants entries) s (Entering x) refl
+stage_follows p begins move own fs grants entries passes s (Leaving x) a d facts = same_column p (seen fs grants entries) s (Leaving x) refl
+stage_follows p begins move own fs grants entries passes s (Imaging x) a d facts = same_column p (seen fs grants entries) s (Imaging x) refl
+stage_follows p begins move own fs grants entries passes s (Accepting offer x) a d facts = same_column p (seen fs grants entries) s (Accepting offer x) refl
+stage_follows p begins move own fs grants entries passes s (Withdrawing n x) a d facts = same_column p (seen fs grants entries) s (Withdrawing n x) refl
+
+-- a slot knows the destination of the move that is under way there
+same_dest : (p : Phase) (t : Seen) (s : ℕ) → dest_at (column p t s) ≡ dest_from p s
+same_dest (At q) t s = by_test (s == q)
+  where
+    by_test : (b : Bool) → dest_at (cond b (Here Serves t) Away) ≡ 0
+    by_test true = refl
+    by_test false = refl
+same_dest (Closing q dest number) t s = by_test (s == q)
+  where
+    by_test : (b : Bool) → dest_at (cond b (Here (Closes dest number) t) Away) ≡ cond b dest 0
+    by_test true = refl
+    by_test false = refl
+same_dest (Frozen q dest number) t s = by_test (s == q)
+  where
+    by_test : (b : Bool) → dest_at (cond b (Here (Froze dest number) t) Away) ≡ cond b dest 0
+    by_test true = refl
+    by_test false = refl
+same_dest (Passing q dest number) t s = refl
+
+pub own_slot : (home : Home) (h : List Moment) (x : Moment) → IsHistory home (x ∷ h)
+    → slot_after (slot_now home h x.server) x.step ≡ slot_now home (x ∷ h) x.server
+unfolding slot_after slot_now phase_now own_now entries_now
+own_slot home h x it = λ i. record { fs = home.fs; stage = stage i; own = own i }
+  where
+    p : Phase
+    p = phase_now home.first h
+
+    owns : ℕ → Own
+    owns s = own_now home.first h s
+
+    stage : stage_after x.step (owns x.server).held (column p (tables_now home h) x.server)
+        ≡ column (next p x.server x.step) (seen home.fs home.grants (with_entry x.step (entries_now h))) x.server
+    stage = stage_follows p (begins_now h) (λ n. move_now h n) owns home.fs home.grants (entries_now h) (passes_now h x.server) x.server x.step
+        it.0.answered it.0.delivered (facts_of home h it.1)
+
+    own : own_after x.step (dest_at (column p (tables_now home h) x.server)) (owns x.server)
+        ≡ put x.server (λ r. own_after x.step (dest_from p r) (owns r)) owns x.server
+    own = ap (λ d. own_after x.step d (owns x.server)) (same_dest p (tables_now home h) x.server)
+        ∙ sym (put_there x.server (λ r. own_after x.step (dest_from p r) (owns r)) owns)
