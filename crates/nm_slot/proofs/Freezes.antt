@@ -1,1 +1,81 @@
--- x
+-- While a move is frozen or passing, the entries are those at its freeze.
+use Rattle.std.proofs.Common.{◌≡◌, ◌≢◌, ℕ, Bool, true, false, cond, List, [], ◌∷◌, refl, sym, subst, ap, ◌∙◌, Option, Some, None, eqb-true, eq-eqb}
+use Rattle.std.specs.Prelude.{◌==◌, ◌&&◌, if◌then◌else◌}
+use Rattle.nm_rules.specs.Past.{Past}
+use Rattle.nm_rules.specs.Seen.{Seen, seen}
+use Rattle.nm_slot.specs.declared.answers.Abandon.TheVariants as abandon
+use Rattle.nm_slot.specs.declared.answers.Answer.TheVariants as answer
+use Rattle.nm_slot.specs.declared.answers.Begin.TheVariants as begin
+use Rattle.nm_slot.specs.declared.answers.Freeze.TheVariants as freeze
+use Rattle.nm_slot.specs.declared.answers.Install.TheVariants as install
+use Rattle.nm_slot.specs.Answers.{applied, apply_answer, frozen as freeze_by, freeze_answer}
+use Rattle.nm_slot.specs.History.{Home, own_now, tables_now, entries_now, with_entry, frozen_entries, slot_now, IsAnswered, MayCome, IsHistory}
+use Rattle.nm_slot.specs.Phases.{Phase, Moment, source_of, after_at_source, after_elsewhere, phase_now, column}
+use Rattle.nm_slot.specs.Phases.Phase.{At, Closing, Frozen, Passing}
+use Rattle.nm_slot.specs.SlotNow.{Doing, Stage, Own, SlotStep}
+use Rattle.nm_slot.specs.SlotNow.Doing.{Serves, Closes, Froze}
+use Rattle.nm_slot.specs.SlotNow.Stage.{Away, Here}
+use Rattle.nm_slot.specs.SlotNow.HandedOver.{Committed}
+use Rattle.nm_slot.specs.SlotNow.SlotStep.{Entering, Leaving, Applying, Beginning, Freezing, Imaging, Committing, Abandoning, Accepting, Installing, Withdrawing}
+use Rattle.nm_slot.proofs.Inversions.{is_source, phase_by, at_source}
+use Rattle.nm_slot.proofs.Kept.{next, froze_number}
+
+abbrev pub FreezeStands : Phase → (ℕ → Past) → Past → Type 0
+FreezeStands (At server) frozen entries = Unit {0}
+FreezeStands (Closing source dest number) frozen entries = Unit {0}
+FreezeStands (Frozen source dest number) frozen entries = frozen number ≡ entries
+FreezeStands (Passing source dest number) frozen entries = frozen number ≡ entries
+
+-- the entries at the freeze of each move, after a step
+abbrev frozen_after : SlotStep → Past → ℕ → Past → Past
+frozen_after (Freezing (freeze.Frozen its)) entries number before = if its == number then entries else before
+frozen_after _ entries number before = before
+
+at_source_stands : (p : Phase) (step : SlotStep) (frozen : ℕ → Past) (entries : Past) → FreezeStands p frozen entries
+    → ((its : ℕ) → step ≡ Freezing (freeze.Frozen its) → ⊥) → FreezeStands (after_at_source p step) frozen entries
+at_source_stands (At q) (Beginning here dest (begin.Begun number)) frozen entries it other = tt
+at_source_stands (At q) _ frozen entries it other = tt
+at_source_stands (Closing q dest number) (Freezing (freeze.Frozen its)) frozen entries it other = absurd (other its refl)
+at_source_stands (Closing q dest number) (Abandoning (abandon.Back its)) frozen entries it other = tt
+at_source_stands (Closing q dest number) _ frozen entries it other = tt
+at_source_stands (Frozen q dest number) (Committing its (Committed parties)) frozen entries it other = it
+at_source_stands (Frozen q dest number) (Abandoning (abandon.Back its)) frozen entries it other = tt
+at_source_stands (Frozen q dest number) _ frozen entries it other = it
+at_source_stands (Passing q dest number) step frozen entries it other = it
+
+elsewhere_stands : (p : Phase) (s : ℕ) (step : SlotStep) (frozen : ℕ → Past) (entries : Past) → FreezeStands p frozen entries
+    → FreezeStands (after_elsewhere p s step) frozen entries
+elsewhere_stands (At q) s step frozen entries it = tt
+elsewhere_stands (Closing q dest number) s step frozen entries it = tt
+elsewhere_stands (Frozen q dest number) s step frozen entries it = it
+elsewhere_stands (Passing q dest number) s (Installing its install.Now) frozen entries it = by_test ((s == dest) && (its == number))
+  where
+    by_test : (b : Bool) → FreezeStands (cond b (At dest) (Passing q dest number)) frozen entries
+    by_test true = tt
+    by_test false = it
+elsewhere_stands (Passing q dest number) s _ frozen entries it = it
+
+-- a step that doesn't freeze
+next_stands : (p : Phase) (s : ℕ) (step : SlotStep) (frozen : ℕ → Past) (entries : Past) → FreezeStands p frozen entries
+    → ((its : ℕ) → step ≡ Freezing (freeze.Frozen its) → ⊥) → FreezeStands (next p s step) frozen entries
+next_stands p s step frozen entries it other = by_test (s == source_of p)
+  where
+    by_test : (b : Bool) → FreezeStands (cond b (after_at_source p step) (after_elsewhere p s step)) frozen entries
+    by_test true = at_source_stands p step frozen entries it other
+    by_test false = elsewhere_stands p s step frozen entries it
+
+froze_stands : (p : Phase) (t : Seen) (s n : ℕ) (own : Own) (frozen : ℕ → Past) (entries : Past) (stage : Stage) → column p t s ≡ stage
+    → freeze.Frozen n ≡ freeze_by stage own → FreezeStands (next p s (Freezing (freeze.Frozen n))) (λ k. cond (n == k) entries (frozen k)) entries
+froze_stands p t s n own frozen entries Away e a = cc
+froze_stands p t s n own frozen entries (Here Serves state) e a = cc
+froze_stands p t s n own frozen entries (Here (Closes dest number) state) e a =
+    let phase = (is_source p t s (Closes dest number) state e).phase in
+    subst (λ q. FreezeStands q (λ k. cond (n == k) entries (frozen k)) entries)
+    (sym (ap (λ q. next q s (Freezing (freeze.Frozen n))) phase ∙ at_source (Closing s dest number) s (Freezing (freeze.Frozen n)) refl))
+    (rw (eq-eqb n number (froze_number number n own (own.out == 0) a)) refl)
+froze_stands p t s n own frozen entries (Here (Froze dest number) state) e a =
+    let phase = (is_source p t s (Froze dest number) state e).phase in
+    let same : n ≡ number = cc in
+    subst (λ q. FreezeStands q (λ k. cond (n == k) entries (frozen k)) entries)
+    (sym (ap (λ q. next q s (Freezing (freeze.Frozen n))) phase ∙ at_source (Frozen s dest number) s (Freezing (freeze.Frozen n)) refl))
+    (rw (eq-eqb n number same) refl)

@@ -4,9 +4,11 @@ use Rattle.std.specs.Prelude.{◌+◌, ◌==◌, ◌&&◌}
 use Rattle.nm_rules.specs.Parties.{Party}
 use Rattle.nm_rules.specs.Past.{Past}
 use Rattle.nm_rules.specs.Seen.{Seen, seen, after}
+use Rattle.nm_rules.specs.declared.calls.Call.{Call}
 use Rattle.nm_rules.specs.declared.calls.Event.{Event}
 use Rattle.nm_rules.specs.declared.calls.Event.TheVariants.{Asked}
 use Rattle.nm_rules.specs.declared.calls.Reply.{Reply}
+use Rattle.nm_rules.specs.declared.calls.Verdict.{Verdict}
 use Rattle.nm_slot.specs.declared.answers.Abandon.TheVariants as abandon
 use Rattle.nm_slot.specs.declared.answers.Accept.TheVariants as accept
 use Rattle.nm_slot.specs.declared.answers.Answer.TheVariants as answer
@@ -185,3 +187,84 @@ own_slot home h x it = λ i. record { fs = home.fs; stage = stage i; own = own i
         ≡ put x.server (λ r. own_after x.step (dest_from p r) (owns r)) owns x.server
     own = ap (λ d. own_after x.step d (owns x.server)) (same_dest p (tables_now home h) x.server)
         ∙ sym (put_there x.server (λ r. own_after x.step (dest_from p r) (owns r)) owns)
+
+-- ---- the other servers
+
+away : (p : Phase) (t : Seen) (s : ℕ) → s ≢ source_of p → column p t s ≡ Away
+away (At q) t s ne = rw (ne_eqb s q ne) refl
+away (Closing q dest number) t s ne = rw (ne_eqb s q ne) refl
+away (Frozen q dest number) t s ne = rw (ne_eqb s q ne) refl
+away (Passing q dest number) t s ne = refl
+
+same_source : (p : Phase) (step : SlotStep) → source_of (after_at_source p step) ≡ source_of p
+same_source (At q) (Beginning here dest (begin.Begun number)) = refl
+same_source (At q) _ = refl
+same_source (Closing q dest number) (Freezing (freeze.Frozen its)) = refl
+same_source (Closing q dest number) (Abandoning (abandon.Back its)) = refl
+same_source (Closing q dest number) _ = refl
+same_source (Frozen q dest number) (Committing its (Committed parties)) = refl
+same_source (Frozen q dest number) (Abandoning (abandon.Back its)) = refl
+same_source (Frozen q dest number) _ = refl
+same_source (Passing q dest number) step = refl
+
+passed_elsewhere : (q dest number r its s : ℕ) (t : Seen) → s ≢ r → (same number_too : Bool) → (r == dest) ≡ same
+    → column (cond (same && number_too) (At dest) (Passing q dest number)) t s ≡ Away
+passed_elsewhere q dest number r its s t ne true true e = away (At dest) t s (λ at. ne (at ∙ sym (eqb-true r dest e)))
+passed_elsewhere q dest number r its s t ne true false e = refl
+passed_elsewhere q dest number r its s t ne false b e = refl
+
+column_elsewhere : (p : Phase) (r s : ℕ) (step : SlotStep) (t : Seen) → s ≢ r → column (after_elsewhere p r step) t s ≡ column p t s
+column_elsewhere (At q) r s step t ne = refl
+column_elsewhere (Closing q dest number) r s step t ne = refl
+column_elsewhere (Frozen q dest number) r s step t ne = refl
+column_elsewhere (Passing q dest number) r s (Installing its install.Now) t ne = passed_elsewhere q dest number r its s t ne (r == dest) (its == number) refl
+column_elsewhere (Passing q dest number) r s _ t ne = refl
+
+column_of_others : (p : Phase) (r s : ℕ) (step : SlotStep) (t : Seen) → s ≢ r → column (next p r step) t s ≡ column p t s
+column_of_others p r s step t ne = by_test (r == source_of p) refl
+  where
+    by_test : (b : Bool) → (r == source_of p) ≡ b → column (cond b (after_at_source p step) (after_elsewhere p r step)) t s ≡ column p t s
+    by_test true e =
+        let apart : s ≢ source_of p = λ at. ne (at ∙ sym (eqb-true r (source_of p) e)) in
+        away (after_at_source p step) t s (λ at. apart (at ∙ same_source p step)) ∙ sym (away p t s apart)
+    by_test false e = column_elsewhere p r s step t ne
+
+source_by : (r : ℕ) (doing : Doing) → source_of (phase_by r doing) ≡ r
+source_by r Serves = refl
+source_by r (Closes dest number) = refl
+source_by r (Froze dest number) = refl
+
+-- where calls are carried out at a server, no other has the state
+called_elsewhere : (p : Phase) (t new : Seen) (r s epoch place : ℕ) (call : Call) (verdict : Verdict) (reply : Reply) (own : Own) (stage : Stage)
+    → column p t r ≡ stage → answer.Done place reply ≡ applied epoch call verdict stage own → s ≢ r → column p new s ≡ column p t s
+called_elsewhere p t new r s epoch place call verdict reply own Away e a ne = cc
+called_elsewhere p t new r s epoch place call verdict reply own (Here doing state) e a ne =
+    let apart : s ≢ source_of p = λ at. ne (at ∙ ap source_of (is_source p t r doing state e).phase ∙ source_by r doing) in
+    away p new s apart ∙ sym (away p t s apart)
+
+tables_of_others : (p : Phase) (fs : ℕ) (grants : Bool) (entries : Past) (r s : ℕ) (own : Own) (step : SlotStep)
+    → IsAnswered (record { fs = fs; stage = column p (seen fs grants entries) r; own = own }) step → s ≢ r
+    → column p (seen fs grants (with_entry step entries)) s ≡ column p (seen fs grants entries) s
+unfolding apply_answer
+tables_of_others p fs grants entries r s own (Applying epoch call verdict (answer.Done place reply)) a ne =
+    called_elsewhere p (seen fs grants entries) (seen fs grants (with_entry (Applying epoch call verdict (answer.Done place reply)) entries)) r s epoch place call verdict reply own
+    (column p (seen fs grants entries) r) refl a ne
+tables_of_others p fs grants entries r s own _ a ne = refl
+
+pub other_slots : (home : Home) (h : List Moment) (x : Moment) → IsHistory home (x ∷ h)
+    → (s : ℕ) → s ≢ x.server → slot_now home (x ∷ h) s ≡ slot_now home h s
+unfolding slot_now phase_now own_now entries_now
+other_slots home h x it s ne = λ i. record { fs = home.fs; stage = stage i; own = own i }
+  where
+    p : Phase
+    p = phase_now home.first h
+
+    owns : ℕ → Own
+    owns r = own_now home.first h r
+
+    stage : column (next p x.server x.step) (seen home.fs home.grants (with_entry x.step (entries_now h))) s ≡ column p (tables_now home h) s
+    stage = column_of_others p x.server s x.step (seen home.fs home.grants (with_entry x.step (entries_now h))) ne
+        ∙ tables_of_others p home.fs home.grants (entries_now h) x.server s (owns x.server) x.step it.0.answered ne
+
+    own : put x.server (λ r. own_after x.step (dest_from p r) (owns r)) owns s ≡ owns s
+    own = put_elsewhere x.server s (λ r. own_after x.step (dest_from p r) (owns r)) owns (λ e. ne (sym e))
