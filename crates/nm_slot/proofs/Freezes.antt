@@ -3,6 +3,9 @@ use Rattle.std.proofs.Common.{◌≡◌, ◌≢◌, ℕ, Bool, true, false, cond
 use Rattle.std.specs.Prelude.{◌==◌, ◌&&◌, if◌then◌else◌}
 use Rattle.nm_rules.specs.Past.{Past}
 use Rattle.nm_rules.specs.Seen.{Seen, seen}
+use Rattle.nm_rules.specs.declared.calls.Call.{Call}
+use Rattle.nm_rules.specs.declared.calls.Reply.{Reply}
+use Rattle.nm_rules.specs.declared.calls.Verdict.{Verdict}
 use Rattle.nm_slot.specs.declared.answers.Abandon.TheVariants as abandon
 use Rattle.nm_slot.specs.declared.answers.Answer.TheVariants as answer
 use Rattle.nm_slot.specs.declared.answers.Begin.TheVariants as begin
@@ -17,7 +20,7 @@ use Rattle.nm_slot.specs.SlotNow.Doing.{Serves, Closes, Froze}
 use Rattle.nm_slot.specs.SlotNow.Stage.{Away, Here}
 use Rattle.nm_slot.specs.SlotNow.HandedOver.{Committed}
 use Rattle.nm_slot.specs.SlotNow.SlotStep.{Entering, Leaving, Applying, Beginning, Freezing, Imaging, Committing, Abandoning, Accepting, Installing, Withdrawing}
-use Rattle.nm_slot.proofs.Inversions.{is_source, phase_by, at_source}
+use Rattle.nm_slot.proofs.Inversions.{is_source, phase_by, at_source, same_phase}
 use Rattle.nm_slot.proofs.Kept.{next, froze_number}
 
 abbrev pub FreezeStands : Phase → (ℕ → Past) → Past → Type 0
@@ -79,3 +82,41 @@ froze_stands p t s n own frozen entries (Here (Froze dest number) state) e a =
     subst (λ q. FreezeStands q (λ k. cond (n == k) entries (frozen k)) entries)
     (sym (ap (λ q. next q s (Freezing (freeze.Frozen n))) phase ∙ at_source (Frozen s dest number) s (Freezing (freeze.Frozen n)) refl))
     (rw (eq-eqb n number same) refl)
+
+-- calls are carried out before a freeze
+called_stands : (p : Phase) (t : Seen) (s epoch place : ℕ) (call : Call) (verdict : Verdict) (reply : Reply) (own : Own) (frozen : ℕ → Past) (entries : Past)
+    → (stage : Stage) → column p t s ≡ stage → answer.Done place reply ≡ applied epoch call verdict stage own
+    → FreezeStands (next p s (Applying epoch call verdict (answer.Done place reply))) frozen entries
+called_stands p t s epoch place call verdict reply own frozen entries Away e a = cc
+called_stands p t s epoch place call verdict reply own frozen entries (Here (Froze dest number) state) e a = cc
+called_stands p t s epoch place call verdict reply own frozen entries (Here Serves state) e a =
+    subst (λ q. FreezeStands q frozen entries)
+    (sym (same_phase p s (Applying epoch call verdict (answer.Done place reply)) refl ∙ (is_source p t s Serves state e).phase)) tt
+called_stands p t s epoch place call verdict reply own frozen entries (Here (Closes dest number) state) e a =
+    subst (λ q. FreezeStands q frozen entries)
+    (sym (same_phase p s (Applying epoch call verdict (answer.Done place reply)) refl ∙ (is_source p t s (Closes dest number) state e).phase)) tt
+
+stands_after : (p : Phase) (fs : ℕ) (t : Seen) (s : ℕ) (own : Own) (frozen : ℕ → Past) (entries : Past) (step : SlotStep)
+    → IsAnswered (record { fs = fs; stage = column p t s; own = own }) step → FreezeStands p frozen entries
+    → FreezeStands (next p s step) (λ n. frozen_after step entries n (frozen n)) (with_entry step entries)
+unfolding apply_answer freeze_answer
+stands_after p fs t s own frozen entries (Applying epoch call verdict (answer.Done place reply)) a it =
+    called_stands p t s epoch place call verdict reply own frozen (with_entry (Applying epoch call verdict (answer.Done place reply)) entries) (column p t s) refl a
+stands_after p fs t s own frozen entries (Freezing (freeze.Frozen n)) a it = froze_stands p t s n own frozen entries (column p t s) refl a
+stands_after p fs t s own frozen entries step a it = next_stands p s step frozen entries it (λ its e. cc)
+
+frozen_same : (server number : ℕ) (step : SlotStep) (earlier : List Moment)
+    → frozen_after step (entries_now earlier) number (frozen_entries earlier number) ≡ frozen_entries (record { server = server; step = step } ∷ earlier) number
+unfolding frozen_entries
+frozen_same server number (Freezing (freeze.Frozen its)) earlier = refl
+frozen_same server number _ earlier = refl
+
+pub freeze_of : (home : Home) (h : List Moment) → IsHistory home h
+    → FreezeStands (phase_now home.first h) (λ n. frozen_entries h n) (entries_now h)
+unfolding phase_now entries_now slot_now
+freeze_of home [] it = tt
+freeze_of home (x ∷ earlier) it =
+    subst (λ f. FreezeStands (next (phase_now home.first earlier) x.server x.step) f (with_entry x.step (entries_now earlier)))
+    (λ i n. frozen_same x.server n x.step earlier i)
+    (stands_after (phase_now home.first earlier) home.fs (tables_now home earlier) x.server (own_now home.first earlier x.server)
+    (λ n. frozen_entries earlier n) (entries_now earlier) x.step it.0.answered (freeze_of home earlier it.1))
