@@ -19,9 +19,11 @@ use Rattle.nm_slot.specs.declared.answers.Enter.TheVariants as enter
 use Rattle.nm_slot.specs.declared.answers.Freeze.TheVariants as freeze
 use Rattle.nm_slot.specs.declared.answers.Install.TheVariants as install
 use Rattle.nm_slot.specs.declared.phase.Phase.TheVariants.{Serving}
-use Rattle.nm_slot.specs.Answers.{applied, called, enter_answer, apply_answer, entered, turned_away}
+use Rattle.nm_slot.specs.Answers.{applied, called, enter_answer, apply_answer, install_answer, entered, turned_away}
 use Rattle.nm_slot.specs.Door.{door_answer}
-use Rattle.nm_slot.specs.History.{Home, dest_from, own_now, tables_now, entries_now, with_entry, slot_now, passes_now, IsAnswered, IsDelivered, MayCome, IsHistory}
+use Rattle.nm_slot.specs.History.{Home, dest_from, own_now, tables_now, entries_now, with_entry, frozen_entries, slot_now, passes_now, IsAnswered, IsDelivered, MayCome, IsHistory}
+use Rattle.nm_slot.specs.Laws.{IsWhole}
+use Rattle.nm_slot.specs.Moves.{move_now}
 use Rattle.nm_slot.specs.Phases.{Phase, Moment, source_of, phase_after, after_at_source, after_elsewhere, phase_now, column}
 use Rattle.nm_slot.specs.Phases.Phase.{At, Closing, Frozen, Passing}
 use Rattle.nm_slot.specs.SlotNow.{Doing, Stage, Offer, Left, Own, SlotView, HandedOver, SlotStep, nothing_yet, phase_of, phase_at, phase_away}
@@ -30,8 +32,10 @@ use Rattle.nm_slot.specs.SlotNow.Stage.{Away, Here}
 use Rattle.nm_slot.specs.SlotNow.HandedOver.{Committed, Again, Dead}
 use Rattle.nm_slot.specs.SlotNow.SlotStep.{Entering, Leaving, Applying, Beginning, Freezing, Imaging, Committing, Abandoning, Accepting, Installing, Withdrawing}
 use Rattle.nm_slot.proofs.Facts.{Facts}
+use Rattle.nm_slot.proofs.Freezes.{FreezeStands, freeze_of}
+use Rattle.nm_slot.proofs.HistoryFacts.{facts_of, begins_now}
 use Rattle.nm_slot.proofs.Inversions.{IsSource, is_source}
-use Rattle.nm_slot.proofs.Kept.{next}
+use Rattle.nm_slot.proofs.KeptHeld.{IsReady, is_ready}
 
 -- ---- one server serves
 
@@ -115,3 +119,21 @@ stay_legal home [] it = tt
 stay_legal home (x ∷ earlier) it =
     legal_after (phase_now home.first earlier) home.fs home.grants (entries_now earlier) x.server (own_now home.first earlier x.server) x.step it.0.answered
     (stay_legal home earlier it.1)
+
+-- ---- nothing is lost
+
+pub is_whole : (home : Home) (h : List Moment) (dest number : ℕ) → IsHistory home (record { server = dest; step = Installing number install.Now } ∷ h)
+    → IsWhole home h dest number
+unfolding install_answer slot_now
+is_whole home h dest number it = record {
+  source = ready.source;
+  offer = ready.offer;
+  handed = ready.phase;
+  held = ready.holds;
+  state = ready.state;
+  frozen = subst (λ p. FreezeStands p (λ n. frozen_entries h n) (entries_now h)) ready.phase (freeze_of home h it.1);
+}
+  where
+    ready : IsReady (phase_now home.first h) (tables_now home h) dest number (own_now home.first h dest).held
+    ready = is_ready (phase_now home.first h) (begins_now h) (λ n. move_now h n) (λ s. own_now home.first h s) (tables_now home h) dest number
+        it.0.answered it.0.delivered.0 it.0.delivered.1 (facts_of home h it.1)

@@ -148,6 +148,14 @@ installs_held n own a = is_installed n own.installed own.held a
 not_done_yet : (move : ℕ → Move) (s known n : ℕ) (offer : Offer) → offer.number ≡ n → IsFor s known offer (move offer.number) → (move n).fate ≢ Done
 not_done_yet move s known n offer e it = subst (λ k. (move k).fate ≢ Done) e it.not_done
 
+-- the offer of a move that was handed over is held at its destination
+pub handed_to : (p : Phase) (begins : ℕ) (move : ℕ → Move) (own : ℕ → Own) (t : Seen) (s n : ℕ) → (move n).fate ≡ Handed → (move n).dest ≡ s
+    → Facts p begins move own t → is_offer_of n (own s).held ≡ true
+handed_to p begins move own t s n fate goes facts =
+    let passing = is_passing p begins move own t s n (is_latest begins n move own facts.agreed.settled fate) fate goes facts.offers in
+    let here : Facts (Passing passing.source s n) begins move own t = subst (λ q. Facts q begins move own t) passing.phase facts in
+    ap (is_offer_of n) here.offers.ready ∙ eq-eqb n n refl
+
 -- What is installed was handed over to that server by this move, and is the state as it is.
 pub record IsReady (p : Phase) (t : Seen) (s n : ℕ) (o : Option Offer) : Type 0 where
   pub source : ℕ

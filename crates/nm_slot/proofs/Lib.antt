@@ -6,6 +6,7 @@ pub mod HistoryLaws
 pub mod Inversions
 pub mod Kept
 pub mod KeptHeld
+pub mod NeverComes
 pub mod PassesOut
 pub mod SlotsFollow
 pub mod StepsHeld
