@@ -1,8 +1,8 @@
 -- While a move is frozen or passing, the entries are those at its freeze.
-use Rattle.std.proofs.Common.{◌≡◌, ◌≢◌, ℕ, Bool, true, false, cond, List, [], ◌∷◌, refl, sym, subst, ap, ◌∙◌, Option, Some, None, eqb-true, eq-eqb}
+use Rattle.std.proofs.Common.{◌≡◌, ℕ, Bool, true, false, cond, List, [], ◌∷◌, refl, sym, subst, ap, ◌∙◌, eq-eqb}
 use Rattle.std.specs.Prelude.{◌==◌, ◌&&◌, if◌then◌else◌}
 use Rattle.nm_rules.specs.Past.{Past}
-use Rattle.nm_rules.specs.Seen.{Seen, seen}
+use Rattle.nm_rules.specs.Seen.{Seen}
 use Rattle.nm_rules.specs.declared.calls.Call.{Call}
 use Rattle.nm_rules.specs.declared.calls.Reply.{Reply}
 use Rattle.nm_rules.specs.declared.calls.Verdict.{Verdict}
@@ -12,15 +12,15 @@ use Rattle.nm_slot.specs.declared.answers.Begin.TheVariants as begin
 use Rattle.nm_slot.specs.declared.answers.Freeze.TheVariants as freeze
 use Rattle.nm_slot.specs.declared.answers.Install.TheVariants as install
 use Rattle.nm_slot.specs.Answers.{applied, apply_answer, frozen as freeze_by, freeze_answer}
-use Rattle.nm_slot.specs.History.{Home, own_now, tables_now, entries_now, with_entry, frozen_entries, slot_now, IsAnswered, MayCome, IsHistory}
+use Rattle.nm_slot.specs.History.{Home, own_now, tables_now, entries_now, with_entry, frozen_entries, slot_now, IsAnswered, IsHistory}
 use Rattle.nm_slot.specs.Phases.{Phase, Moment, source_of, after_at_source, after_elsewhere, phase_now, column}
 use Rattle.nm_slot.specs.Phases.Phase.{At, Closing, Frozen, Passing}
-use Rattle.nm_slot.specs.SlotNow.{Doing, Stage, Own, SlotStep}
+use Rattle.nm_slot.specs.SlotNow.{Stage, Own, SlotStep}
 use Rattle.nm_slot.specs.SlotNow.Doing.{Serves, Closes, Froze}
 use Rattle.nm_slot.specs.SlotNow.Stage.{Away, Here}
 use Rattle.nm_slot.specs.SlotNow.HandedOver.{Committed}
-use Rattle.nm_slot.specs.SlotNow.SlotStep.{Entering, Leaving, Applying, Beginning, Freezing, Imaging, Committing, Abandoning, Accepting, Installing, Withdrawing}
-use Rattle.nm_slot.proofs.Inversions.{is_source, phase_by, at_source, same_phase}
+use Rattle.nm_slot.specs.SlotNow.SlotStep.{Applying, Beginning, Freezing, Committing, Abandoning, Installing}
+use Rattle.nm_slot.proofs.Inversions.{is_source, at_source, same_phase}
 use Rattle.nm_slot.proofs.Kept.{next, froze_number}
 
 abbrev pub FreezeStands : Phase → (ℕ → Past) → Past → Type 0

@@ -1,5 +1,5 @@
 -- The facts hold of every history.
-use Rattle.std.proofs.Common.{◌≡◌, ◌≢◌, ◌<◌, ◌≤◌, ℕ, Bool, true, false, cond, List, [], ◌∷◌, refl, sym, subst, ap, ◌∙◌, Option, Some, None, arith}
+use Rattle.std.proofs.Common.{◌≡◌, ℕ, Bool, false, List, [], ◌∷◌, refl, sym, subst, Some, arith}
 use Rattle.std.specs.Prelude.{◌+◌, ◌-◌}
 use Rattle.nm_rules.specs.Past.{Past}
 use Rattle.nm_rules.specs.Seen.{Seen, seen}
@@ -12,12 +12,12 @@ use Rattle.nm_slot.specs.declared.answers.Freeze.TheVariants as freeze
 use Rattle.nm_slot.specs.declared.answers.Install.TheVariants as install
 use Rattle.nm_slot.specs.Answers.{begun as begin_by, apply_answer, begin_answer, freeze_answer, image_answer, commit_answer, abandon_answer, accept_answer, install_answer, withdraw_answer}
 use Rattle.nm_slot.specs.Changes.{own_after, own_accepted, own_withdrawn}
-use Rattle.nm_slot.specs.History.{Home, dest_from, own_now, tables_now, entries_now, with_entry, slot_now, passes_now, IsAnswered, IsDelivered, MayCome, IsHistory}
-use Rattle.nm_slot.specs.Moves.{Move, Fate, no_move, move_after, move_now}
-use Rattle.nm_slot.specs.Phases.{Phase, Moment, source_of, phase_now, column}
-use Rattle.nm_slot.specs.Phases.Phase.{At, Closing, Frozen, Passing}
-use Rattle.nm_slot.specs.SlotNow.{Offer, Left, Own, SlotView, HandedOver, SlotStep, nothing_yet}
-use Rattle.nm_slot.specs.SlotNow.HandedOver.{Committed, Again, Dead}
+use Rattle.nm_slot.specs.History.{Home, dest_from, own_now, tables_now, entries_now, with_entry, slot_now, passes_now, IsAnswered, IsDelivered, IsHistory}
+use Rattle.nm_slot.specs.Moves.{Move, no_move, move_after, move_now}
+use Rattle.nm_slot.specs.Phases.{Phase, Moment, phase_now, column}
+use Rattle.nm_slot.specs.Phases.Phase.{At}
+use Rattle.nm_slot.specs.SlotNow.{Own, SlotStep, nothing_yet}
+use Rattle.nm_slot.specs.SlotNow.HandedOver.{Committed}
 use Rattle.nm_slot.specs.SlotNow.SlotStep.{Entering, Leaving, Applying, Beginning, Freezing, Imaging, Committing, Abandoning, Accepting, Installing, Withdrawing}
 use Rattle.nm_slot.proofs.Facts.{Facts, new_move}
 use Rattle.nm_slot.proofs.Inversions.{same_phase, changes_phase}
@@ -25,7 +25,7 @@ use Rattle.nm_slot.proofs.Kept.{next, begun_kept, frozen_kept, imaged_kept, comm
 use Rattle.nm_slot.proofs.KeptHeld.{held_kept, now_kept}
 use Rattle.nm_slot.proofs.StepsSettled.{withdrawn}
 use Rattle.nm_slot.proofs.StepsHeld.{prepared_move}
-use Rattle.nm_slot.proofs.StepsSource.{IsSame, quiet, own_begun, offering, given_up_move}
+use Rattle.nm_slot.proofs.StepsSource.{quiet, own_begun, offering, given_up_move}
 use Rattle.nm_slot.proofs.Updates.{put, put_same}
 
 -- how many moves began
@@ -67,7 +67,6 @@ unfolding apply_answer begin_answer freeze_answer image_answer commit_answer aba
 kept p begins move own fs grants entries passes s (Entering (enter.Entered pass)) a d facts =
     in_phase p begins move (put s (λ r. record (own r) { out = (own r).out + 1 }) own) (seen fs grants entries) s (Entering (enter.Entered pass)) refl
     (quiet p begins move own (λ r. record (own r) { out = (own r).out + 1 }) (seen fs grants entries) s (record { held = refl; known = refl; installed = refl }) refl refl facts)
-kept p begins move own fs grants entries passes s (Entering a) _ d facts = unchanged p begins move own (seen fs grants entries) s (Entering a) refl facts
 kept p begins move own fs grants entries passes s (Leaving epoch) a d facts =
     in_phase p begins move (put s (λ r. record (own r) { out = (own r).out - 1 }) own) (seen fs grants entries) s (Leaving epoch) refl
     (quiet p begins move own (λ r. record (own r) { out = (own r).out - 1 }) (seen fs grants entries) s (record { held = refl; known = refl; installed = refl }) refl refl facts)
@@ -76,40 +75,32 @@ kept p begins move own fs grants entries passes s (Applying epoch call verdict (
     (Applying epoch call verdict (answer.Done place reply)) refl
     (called_kept p begins move own (seen fs grants entries) (seen fs grants (with_entry (Applying epoch call verdict (answer.Done place reply)) entries)) s epoch call verdict place reply
     (column p (seen fs grants entries) s) refl a facts)
-kept p begins move own fs grants entries passes s (Applying epoch call verdict a) _ d facts =
-    unchanged p begins move own (seen fs grants entries) s (Applying epoch call verdict a) refl facts
 kept p begins move own fs grants entries passes s (Beginning here dest (begin.Begun n)) a d facts =
     subst (λ h. Facts (next p s (Beginning h dest (begin.Begun n))) (begins + 1) (put n (λ _. new_move s dest) move) (put s (λ r. own_begun n (own r)) own) (seen fs grants entries)) (sym d)
     (begun_kept p begins move own (seen fs grants entries) s dest n (column p (seen fs grants entries) s) refl
     (subst (λ h. begin.Begun n ≡ begin_by h dest (column p (seen fs grants entries) s) (own s)) d a) facts)
-kept p begins move own fs grants entries passes s (Beginning here dest a) _ d facts = unchanged p begins move own (seen fs grants entries) s (Beginning here dest a) refl facts
 kept p begins move own fs grants entries passes s (Freezing (freeze.Frozen n)) a d facts =
     subst (λ o. Facts (next p s (Freezing (freeze.Frozen n))) begins move o (seen fs grants entries)) (sym (put_same s own))
     (frozen_kept p begins move own (seen fs grants entries) s n (column p (seen fs grants entries) s) refl a facts)
-kept p begins move own fs grants entries passes s (Freezing a) _ d facts = unchanged p begins move own (seen fs grants entries) s (Freezing a) refl facts
 kept p begins move own fs grants entries passes s (Imaging (Some offer)) a d facts =
     subst (λ o. Facts (next p s (Imaging (Some offer))) begins (put offer.number (λ k. offering offer (move k)) move) o (seen fs grants entries)) (sym (put_same s own))
     (imaged_kept p begins move own (seen fs grants entries) s offer (column p (seen fs grants entries) s) refl a facts)
-kept p begins move own fs grants entries passes s (Imaging None) a d facts = unchanged p begins move own (seen fs grants entries) s (Imaging None) refl facts
 kept p begins move own fs grants entries passes s (Committing n (Committed parties)) a d facts =
     committed_kept p begins move own (seen fs grants entries) s n parties (λ r. Some (record { dest = dest_from p r; number = n }))
     (column p (seen fs grants entries) s) refl a d.0 facts
-kept p begins move own fs grants entries passes s (Committing n a) _ d facts = unchanged p begins move own (seen fs grants entries) s (Committing n a) refl facts
 kept p begins move own fs grants entries passes s (Abandoning (abandon.Back n)) a d facts =
     subst (λ o. Facts (next p s (Abandoning (abandon.Back n))) begins (put n (λ k. given_up_move (move k)) move) o (seen fs grants entries)) (sym (put_same s own))
     (back_kept p begins move own (seen fs grants entries) s n (column p (seen fs grants entries) s) refl a facts)
-kept p begins move own fs grants entries passes s (Abandoning a) _ d facts = unchanged p begins move own (seen fs grants entries) s (Abandoning a) refl facts
 kept p begins move own fs grants entries passes s (Accepting offer accept.Held) a d facts =
     in_phase p begins (put offer.number (λ k. prepared_move (move k)) move) (put s (λ r. own_accepted offer (own r).held (own r)) own) (seen fs grants entries) s
     (Accepting offer accept.Held) refl
     (held_kept p begins move own (seen fs grants entries) s offer (column p (seen fs grants entries) s) a d.0 d.1 facts)
-kept p begins move own fs grants entries passes s (Accepting offer a) _ d facts = unchanged p begins move own (seen fs grants entries) s (Accepting offer a) refl facts
 kept p begins move own fs grants entries passes s (Installing n install.Now) a d facts =
     now_kept p begins move own (seen fs grants entries) s n a d.0 d.1 facts
-kept p begins move own fs grants entries passes s (Installing n a) _ d facts = unchanged p begins move own (seen fs grants entries) s (Installing n a) refl facts
 kept p begins move own fs grants entries passes s (Withdrawing n dropped) a d facts =
     in_phase p begins move (put s (λ r. own_withdrawn dropped n (own r)) own) (seen fs grants entries) s (Withdrawing n dropped) refl
     (withdrawn p begins move own (seen fs grants entries) s n dropped d.0 a facts)
+kept p begins move own fs grants entries passes s step a d facts = unchanged p begins move own (seen fs grants entries) s step refl facts
 
 -- They hold after any steps that came as they may.
 pub facts_of : (home : Home) (h : List Moment) → IsHistory home h

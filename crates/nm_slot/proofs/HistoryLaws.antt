@@ -1,40 +1,32 @@
 -- The laws of every history, from the facts.
-use Rattle.std.proofs.Common.{◌≡◌, ◌≢◌, ◌↔◌, ◌<◌, ◌≤◌, ℕ, Bool, true, false, cond, List, [], ◌∷◌, length, refl, sym, subst, ap, ◌∙◌, Option, Some, None, arith, eqb-true, eq-eqb, ne_eqb}
-use Rattle.std.specs.Prelude.{◌+◌, ◌-◌, ◌==◌, ◌^◌, ◌&&◌, ◌||◌, not, nat_le}
-use Rattle.std.specs.List.{list_all, list_any}
-use Rattle.std.proofs.lemmas.Bool.{eqb-false}
+use Rattle.std.proofs.Common.{◌≡◌, ◌↔◌, ℕ, Bool, true, false, cond, List, [], ◌∷◌, refl, sym, subst, ap, ◌∙◌, Option, Some, None, eq-eqb}
+use Rattle.std.specs.Prelude.{◌+◌, ◌-◌, ◌==◌, ◌^◌, not, nat_le}
 use Rattle.nm_rules.specs.Answer.{IsLegal, answer_to}
 use Rattle.nm_rules.specs.Past.{Past}
-use Rattle.nm_rules.specs.Seen.{Seen, seen, after}
+use Rattle.nm_rules.specs.Seen.{Seen, seen}
 use Rattle.nm_rules.specs.declared.calls.Call.{Call}
 use Rattle.nm_rules.specs.declared.calls.Event.TheVariants.{Asked}
 use Rattle.nm_rules.specs.declared.calls.Reply.{Reply}
 use Rattle.nm_rules.specs.declared.calls.Verdict.{Verdict}
-use Rattle.nm_slot.specs.declared.answers.Abandon.TheVariants as abandon
-use Rattle.nm_slot.specs.declared.answers.Accept.TheVariants as accept
 use Rattle.nm_slot.specs.declared.answers.Answer.TheVariants as answer
-use Rattle.nm_slot.specs.declared.answers.Begin.TheVariants as begin
 use Rattle.nm_slot.specs.declared.answers.Enter.{Enter}
 use Rattle.nm_slot.specs.declared.answers.Enter.TheVariants as enter
-use Rattle.nm_slot.specs.declared.answers.Freeze.TheVariants as freeze
 use Rattle.nm_slot.specs.declared.answers.Install.TheVariants as install
 use Rattle.nm_slot.specs.declared.phase.Phase.TheVariants.{Serving}
-use Rattle.nm_slot.specs.Answers.{applied, called, enter_answer, apply_answer, install_answer, entered, turned_away}
+use Rattle.nm_slot.specs.Answers.{applied, enter_answer, apply_answer, install_answer, entered, turned_away}
 use Rattle.nm_slot.specs.Door.{door_answer}
-use Rattle.nm_slot.specs.History.{Home, dest_from, own_now, tables_now, entries_now, with_entry, frozen_entries, slot_now, passes_now, IsAnswered, IsDelivered, MayCome, IsHistory}
+use Rattle.nm_slot.specs.History.{Home, own_now, tables_now, entries_now, with_entry, frozen_entries, slot_now, IsAnswered, IsHistory}
 use Rattle.nm_slot.specs.Laws.{IsWhole}
 use Rattle.nm_slot.specs.Moves.{move_now}
-use Rattle.nm_slot.specs.Phases.{Phase, Moment, source_of, phase_after, after_at_source, after_elsewhere, phase_now, column}
+use Rattle.nm_slot.specs.Phases.{Phase, Moment, phase_now, column}
 use Rattle.nm_slot.specs.Phases.Phase.{At, Closing, Frozen, Passing}
-use Rattle.nm_slot.specs.SlotNow.{Doing, Stage, Offer, Left, Own, SlotView, HandedOver, SlotStep, nothing_yet, phase_of, phase_at, phase_away}
+use Rattle.nm_slot.specs.SlotNow.{Stage, Offer, Left, Own, SlotStep, phase_of, phase_at, phase_away}
 use Rattle.nm_slot.specs.SlotNow.Doing.{Serves, Closes, Froze}
 use Rattle.nm_slot.specs.SlotNow.Stage.{Away, Here}
-use Rattle.nm_slot.specs.SlotNow.HandedOver.{Committed, Again, Dead}
-use Rattle.nm_slot.specs.SlotNow.SlotStep.{Entering, Leaving, Applying, Beginning, Freezing, Imaging, Committing, Abandoning, Accepting, Installing, Withdrawing}
-use Rattle.nm_slot.proofs.Facts.{Facts}
+use Rattle.nm_slot.specs.SlotNow.SlotStep.{Applying, Installing}
 use Rattle.nm_slot.proofs.Freezes.{FreezeStands, freeze_of}
 use Rattle.nm_slot.proofs.HistoryFacts.{facts_of, begins_now}
-use Rattle.nm_slot.proofs.Inversions.{IsSource, is_source}
+use Rattle.nm_slot.proofs.Inversions.{is_source}
 use Rattle.nm_slot.proofs.KeptHeld.{IsReady, is_ready}
 
 -- ---- one server serves
@@ -56,8 +48,9 @@ serves_at p t s own e = subst (λ q. phase_at (column q t s) own ≡ Serving) (s
 pub one_serves : (home : Home) (h : List Moment) (s : ℕ) → (phase_of (slot_now home h s) ≡ Serving) ↔ (phase_now home.first h ≡ At s)
 unfolding phase_of slot_now
 one_serves home h s = (
-    (λ e. serves_by (phase_now home.first h) (tables_now home h) s (own_now home.first h s) (column (phase_now home.first h) (tables_now home h) s) refl e),
-    (λ e. serves_at (phase_now home.first h) (tables_now home h) s (own_now home.first h s) e))
+  (λ e. serves_by (phase_now home.first h) (tables_now home h) s (own_now home.first h s) (column (phase_now home.first h) (tables_now home h) s) refl e),
+  (λ e. serves_at (phase_now home.first h) (tables_now home h) s (own_now home.first h s) e),
+)
 
 -- ---- the door
 

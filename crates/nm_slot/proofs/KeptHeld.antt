@@ -1,6 +1,6 @@
 -- Each answered step of a destination keeps the facts.
-use Rattle.std.proofs.Common.{◌≡◌, ◌≢◌, ◌<◌, ◌≤◌, ℕ, Bool, true, false, cond, refl, sym, subst, ap, ◌∙◌, Option, Some, None, arith, eqb-true, eq-eqb, ne_eqb}
-use Rattle.std.specs.Prelude.{◌+◌, ◌==◌, ◌&&◌, nat_le}
+use Rattle.std.proofs.Common.{◌≡◌, ◌≢◌, ◌<◌, ℕ, Bool, true, false, cond, refl, sym, subst, ap, ◌∙◌, Option, Some, None, arith, eqb-true, eq-eqb, ne_eqb}
+use Rattle.std.specs.Prelude.{◌==◌, nat_le}
 use Rattle.std.proofs.lemmas.Bool.{eqb-false}
 use Rattle.std.proofs.lemmas.Bool.Decides.{nat_tests}
 use Rattle.nm_rules.specs.Seen.{Seen}
@@ -8,18 +8,17 @@ use Rattle.nm_slot.specs.declared.answers.Accept.TheVariants as accept
 use Rattle.nm_slot.specs.declared.answers.Install.TheVariants as install
 use Rattle.nm_slot.specs.Answers.{accepted as accept_by, accepted_at, installed as install_by, is_offer_of}
 use Rattle.nm_slot.specs.Changes.{own_accepted, own_installed}
-use Rattle.nm_slot.specs.Moves.{Move, Fate, no_move, is_handed}
+use Rattle.nm_slot.specs.Moves.{Move, Fate, is_handed}
 use Rattle.nm_slot.specs.Moves.Fate.{NotBegun, UnderWay, GivenUp, Handed, Done}
-use Rattle.nm_slot.specs.Phases.{Phase, Moment, source_of, phase_after, after_at_source, after_elsewhere, column}
+use Rattle.nm_slot.specs.Phases.{Phase}
 use Rattle.nm_slot.specs.Phases.Phase.{At, Closing, Frozen, Passing}
-use Rattle.nm_slot.specs.SlotNow.{Doing, Stage, Offer, Left, Own, SlotStep}
-use Rattle.nm_slot.specs.SlotNow.SlotStep.{Entering, Leaving, Applying, Beginning, Freezing, Imaging, Committing, Abandoning, Accepting, Installing, Withdrawing}
-use Rattle.nm_slot.proofs.Facts.{Facts, is_going, offer_now, IsFor, Agreed, OffersStand, SettledIsCommitted}
-use Rattle.nm_slot.proofs.Inversions.{same_phase}
+use Rattle.nm_slot.specs.SlotNow.{Stage, Offer, Own}
+use Rattle.nm_slot.specs.SlotNow.SlotStep.{Installing}
+use Rattle.nm_slot.proofs.Facts.{Facts, is_going, offer_now, IsFor, OffersStand, SettledIsCommitted}
 use Rattle.nm_slot.proofs.Kept.{next}
 use Rattle.nm_slot.proofs.StepsHeld.{prepared, prepared_move, accepted, own_holding, some_same}
 use Rattle.nm_slot.proofs.StepsSettled.{installed, own_serving, done_move}
-use Rattle.nm_slot.proofs.Updates.{put, put_like, put_unchanged, put_there, put_elsewhere}
+use Rattle.nm_slot.proofs.Updates.{put, put_like, put_unchanged, put_there}
 
 -- ---- an offer is held
 

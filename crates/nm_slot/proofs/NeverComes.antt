@@ -1,21 +1,19 @@
 -- The answers that never come.
-use Rattle.std.proofs.Common.{◌≡◌, ◌≢◌, ◌<◌, ◌≤◌, ℕ, Bool, true, false, cond, List, [], ◌∷◌, refl, sym, subst, ap, ◌∙◌, Option, Some, None, arith, eqb-true, eq-eqb}
+use Rattle.std.proofs.Common.{◌≡◌, ◌≤◌, ℕ, Bool, true, false, cond, List, [], ◌∷◌, refl, sym, subst, ap, ◌∙◌, Option, Some, arith, eqb-true, eq-eqb}
 use Rattle.std.specs.Prelude.{◌+◌, ◌-◌, ◌==◌, ◌^◌, ◌&&◌, ◌||◌, not, nat_le}
-use Rattle.std.specs.List.{list_all, list_any}
+use Rattle.std.specs.List.{list_all}
 use Rattle.std.proofs.lemmas.Bool.Decides.{nat_tests}
 use Rattle.nm_rules.specs.Answer.{answer_to}
 use Rattle.nm_rules.specs.Seen.{Seen}
 use Rattle.nm_rules.specs.declared.calls.Call.{Call}
 use Rattle.nm_rules.specs.declared.calls.Event.TheVariants.{Asked}
-use Rattle.nm_rules.specs.declared.calls.Reply.{Reply}
 use Rattle.nm_rules.specs.declared.calls.Verdict.{Verdict}
-use Rattle.nm_slot.specs.declared.answers.Accept.{Accept}
 use Rattle.nm_slot.specs.declared.answers.Accept.TheVariants as accept
 use Rattle.nm_slot.specs.declared.answers.Answer.{Answer}
 use Rattle.nm_slot.specs.declared.answers.Answer.TheVariants as answer
 use Rattle.nm_slot.specs.declared.answers.Install.TheVariants as install
 use Rattle.nm_slot.specs.Answers.{applied, called, accepted as accept_by, accepted_at, installed as install_by, is_offer_of, apply_answer, accept_answer, install_answer}
-use Rattle.nm_slot.specs.History.{Home, own_now, tables_now, passes_now, slot_now, is_out, IsAnswered, IsDelivered, MayCome, IsHistory}
+use Rattle.nm_slot.specs.History.{Home, own_now, tables_now, passes_now, slot_now, is_out, IsAnswered, IsDelivered, IsHistory}
 use Rattle.nm_slot.specs.Laws.{NeverComes}
 use Rattle.nm_slot.specs.Moves.{Move, Fate, move_now, is_handed}
 use Rattle.nm_slot.specs.Moves.Fate.{NotBegun, UnderWay, GivenUp, Handed, Done}
@@ -24,9 +22,9 @@ use Rattle.nm_slot.specs.Phases.Phase.{At, Closing, Frozen, Passing}
 use Rattle.nm_slot.specs.SlotNow.{Doing, Stage, Offer, Own, SlotStep}
 use Rattle.nm_slot.specs.SlotNow.Doing.{Serves, Closes, Froze}
 use Rattle.nm_slot.specs.SlotNow.Stage.{Away, Here}
-use Rattle.nm_slot.specs.SlotNow.SlotStep.{Entering, Leaving, Applying, Beginning, Freezing, Imaging, Committing, Abandoning, Accepting, Installing, Withdrawing}
+use Rattle.nm_slot.specs.SlotNow.SlotStep.{Applying, Accepting, Installing}
 use Rattle.nm_slot.proofs.Agreed.{began}
-use Rattle.nm_slot.proofs.Facts.{Facts, IsRemembered, offer_now}
+use Rattle.nm_slot.proofs.Facts.{Facts, IsRemembered}
 use Rattle.nm_slot.proofs.HistoryFacts.{facts_of, begins_now}
 use Rattle.nm_slot.proofs.Inversions.{is_source, phase_by}
 use Rattle.nm_slot.proofs.KeptHeld.{handed_to}

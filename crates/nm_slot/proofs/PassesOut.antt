@@ -1,10 +1,9 @@
 -- The passes that are out at a server are of its epoch, as many as it counts, and there are none but where the file system
 -- is served or closes.
-use Rattle.std.proofs.Common.{◌≡◌, ◌≢◌, ◌<◌, ◌≤◌, ℕ, Bool, true, false, cond, List, [], ◌∷◌, length, refl, sym, subst, ap, ◌∙◌, Option, Some, None, arith, eqb-true, eq-eqb}
-use Rattle.std.specs.Prelude.{◌+◌, ◌-◌, ◌==◌, ◌^◌, ◌&&◌, ◌||◌, nat_le}
+use Rattle.std.proofs.Common.{◌≡◌, ◌≢◌, ℕ, Bool, true, false, cond, List, [], ◌∷◌, length, refl, sym, subst, ap, ◌∙◌, Option, Some, None, arith, eqb-true, eq-eqb}
+use Rattle.std.specs.Prelude.{◌-◌, ◌==◌, ◌^◌, ◌&&◌, ◌||◌, nat_le}
 use Rattle.std.specs.List.{list_all, list_any}
-use Rattle.std.proofs.lemmas.Bool.{eqb-false}
-use Rattle.nm_rules.specs.Seen.{Seen, seen}
+use Rattle.nm_rules.specs.Seen.{Seen}
 use Rattle.nm_slot.specs.declared.answers.Abandon.TheVariants as abandon
 use Rattle.nm_slot.specs.declared.answers.Accept.TheVariants as accept
 use Rattle.nm_slot.specs.declared.answers.Answer.TheVariants as answer
@@ -12,22 +11,21 @@ use Rattle.nm_slot.specs.declared.answers.Begin.TheVariants as begin
 use Rattle.nm_slot.specs.declared.answers.Enter.TheVariants as enter
 use Rattle.nm_slot.specs.declared.answers.Freeze.TheVariants as freeze
 use Rattle.nm_slot.specs.declared.answers.Install.TheVariants as install
-use Rattle.nm_slot.specs.Answers.{installed as install_by, entered, let_in, turned_away, frozen as freeze_by, enter_answer, freeze_answer, install_answer}
-use Rattle.nm_slot.specs.Changes.{own_after, own_accepted, own_installed, own_withdrawn}
-use Rattle.nm_slot.specs.History.{Home, dest_from, own_now, tables_now, entries_now, slot_now, passes_now, passes_after, without_one, is_out, IsAnswered, IsDelivered, MayCome, IsHistory}
-use Rattle.nm_slot.specs.Moves.{Move, Fate, move_now, is_handed}
-use Rattle.nm_slot.specs.Moves.Fate.{Done}
+use Rattle.nm_slot.specs.Answers.{installed as install_by, entered, turned_away, frozen as freeze_by, enter_answer, freeze_answer, install_answer}
+use Rattle.nm_slot.specs.Changes.{own_after, own_accepted, own_installed}
+use Rattle.nm_slot.specs.History.{Home, dest_from, own_now, tables_now, slot_now, passes_now, passes_after, without_one, is_out, IsAnswered, IsDelivered, IsHistory}
+use Rattle.nm_slot.specs.Moves.{Move, move_now, is_handed}
 use Rattle.nm_slot.specs.Passes.{PassNow}
-use Rattle.nm_slot.specs.Phases.{Phase, Moment, source_of, phase_after, after_at_source, after_elsewhere, phase_now, column}
+use Rattle.nm_slot.specs.Phases.{Phase, Moment, source_of, after_at_source, after_elsewhere, phase_now, column}
 use Rattle.nm_slot.specs.Phases.Phase.{At, Closing, Frozen, Passing}
-use Rattle.nm_slot.specs.SlotNow.{Doing, Stage, Offer, Left, Own, SlotView, HandedOver, SlotStep, nothing_yet}
+use Rattle.nm_slot.specs.SlotNow.{Stage, Offer, Left, Own, SlotStep}
 use Rattle.nm_slot.specs.SlotNow.Doing.{Serves, Closes, Froze}
 use Rattle.nm_slot.specs.SlotNow.Stage.{Away, Here}
-use Rattle.nm_slot.specs.SlotNow.HandedOver.{Committed, Again, Dead}
-use Rattle.nm_slot.specs.SlotNow.SlotStep.{Entering, Leaving, Applying, Beginning, Freezing, Imaging, Committing, Abandoning, Accepting, Installing, Withdrawing}
+use Rattle.nm_slot.specs.SlotNow.HandedOver.{Committed}
+use Rattle.nm_slot.specs.SlotNow.SlotStep.{Entering, Leaving, Applying, Beginning, Freezing, Committing, Abandoning, Accepting, Installing, Withdrawing}
 use Rattle.nm_slot.proofs.Facts.{Facts}
 use Rattle.nm_slot.proofs.HistoryFacts.{facts_of, begins_now}
-use Rattle.nm_slot.proofs.Inversions.{IsSource, is_source, phase_by, same_phase}
+use Rattle.nm_slot.proofs.Inversions.{is_source, same_phase}
 use Rattle.nm_slot.proofs.Kept.{next}
 use Rattle.nm_slot.proofs.KeptHeld.{is_ready}
 use Rattle.nm_slot.proofs.Updates.{put, by_place, put_there, put_elsewhere}
@@ -149,28 +147,20 @@ counted_after (Entering (enter.Entered pass)) dest own passes fits it = record {
   counted = omega (arith, it.counted);
   epochs = rw (eq-eqb pass.epoch own.epoch fits) it.epochs;
 }
-counted_after (Entering a) dest own passes _ it = it
 counted_after (Leaving epoch) dest own passes fits it = record {
   counted = omega (arith, it.counted, one_fewer epoch passes fits);
   epochs = all_but_one epoch (λ e. e == own.epoch) passes it.epochs;
 }
 counted_after (Applying epoch call verdict (answer.Done place reply)) dest own passes fits it = record { counted = it.counted; epochs = it.epochs }
-counted_after (Applying epoch call verdict a) dest own passes _ it = it
 counted_after (Beginning here to (begin.Begun number)) dest own passes fits it = record { counted = it.counted; epochs = it.epochs }
-counted_after (Beginning here to a) dest own passes _ it = it
-counted_after (Freezing a) dest own passes fits it = it
-counted_after (Imaging a) dest own passes fits it = it
 counted_after (Committing number (Committed parties)) dest own passes fits it = record { counted = it.counted; epochs = it.epochs }
-counted_after (Committing number a) dest own passes _ it = it
-counted_after (Abandoning a) dest own passes fits it = it
 counted_after (Accepting offer accept.Held) dest own passes fits it =
     let same = accepted_out offer own.held own in counted_same own (own_accepted offer own.held own) passes same.0 same.1 it
-counted_after (Accepting offer a) dest own passes _ it = it
 counted_after (Installing number install.Now) dest own passes fits it =
     subst (λ es. AreCounted (own_installed number own.held own) es) (sym fits) (installed_out number own.held own (it.counted ∙ ap (λ (es : List ℕ). length es) fits))
-counted_after (Installing number a) dest own passes _ it = it
 counted_after (Withdrawing number true) dest own passes fits it = record { counted = it.counted; epochs = it.epochs }
 counted_after (Withdrawing number false) dest own passes fits it = record { counted = it.counted; epochs = it.epochs }
+counted_after _ dest own passes fits it = it
 
 -- ---- each server's passes, over a history
 

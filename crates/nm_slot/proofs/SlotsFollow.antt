@@ -1,6 +1,6 @@
 -- What a call leaves of its server's slot is that server's column of the one phase, and no other slot changes.
-use Rattle.std.proofs.Common.{◌≡◌, ◌≢◌, ℕ, Bool, true, false, cond, List, [], ◌∷◌, refl, sym, subst, ap, ◌∙◌, Option, Some, None, arith, eqb-true, eq-eqb, ne_eqb}
-use Rattle.std.specs.Prelude.{◌+◌, ◌==◌, ◌&&◌}
+use Rattle.std.proofs.Common.{◌≡◌, ◌≢◌, ℕ, Bool, true, false, cond, List, ◌∷◌, refl, sym, ap, ◌∙◌, Option, eqb-true, eq-eqb, ne_eqb}
+use Rattle.std.specs.Prelude.{◌==◌, ◌&&◌}
 use Rattle.nm_rules.specs.Parties.{Party}
 use Rattle.nm_rules.specs.Past.{Past}
 use Rattle.nm_rules.specs.Seen.{Seen, seen, after}
@@ -10,26 +10,25 @@ use Rattle.nm_rules.specs.declared.calls.Event.TheVariants.{Asked}
 use Rattle.nm_rules.specs.declared.calls.Reply.{Reply}
 use Rattle.nm_rules.specs.declared.calls.Verdict.{Verdict}
 use Rattle.nm_slot.specs.declared.answers.Abandon.TheVariants as abandon
-use Rattle.nm_slot.specs.declared.answers.Accept.TheVariants as accept
 use Rattle.nm_slot.specs.declared.answers.Answer.TheVariants as answer
 use Rattle.nm_slot.specs.declared.answers.Begin.TheVariants as begin
 use Rattle.nm_slot.specs.declared.answers.Freeze.TheVariants as freeze
 use Rattle.nm_slot.specs.declared.answers.Install.TheVariants as install
 use Rattle.nm_slot.specs.Answers.{begun as begin_by, frozen as freeze_by, committed as commit_by, abandoned as abandon_by, applied, apply_answer, begin_answer, freeze_answer, commit_answer, abandon_answer, install_answer}
 use Rattle.nm_slot.specs.Changes.{with_doing, dest_at, stage_called, stage_of_offer, stage_after, own_after, slot_after}
-use Rattle.nm_slot.specs.History.{Home, dest_from, own_now, tables_now, entries_now, with_entry, slot_now, passes_now, IsAnswered, IsDelivered, MayCome, IsHistory}
+use Rattle.nm_slot.specs.History.{Home, dest_from, own_now, tables_now, entries_now, with_entry, slot_now, passes_now, IsAnswered, IsDelivered, IsHistory}
 use Rattle.nm_slot.specs.Moves.{Move, move_now}
-use Rattle.nm_slot.specs.Phases.{Phase, Moment, source_of, phase_after, after_at_source, after_elsewhere, phase_now, column}
+use Rattle.nm_slot.specs.Phases.{Phase, Moment, source_of, after_at_source, after_elsewhere, phase_now, column}
 use Rattle.nm_slot.specs.Phases.Phase.{At, Closing, Frozen, Passing}
-use Rattle.nm_slot.specs.SlotNow.{Doing, Stage, Offer, Own, SlotView, HandedOver, SlotStep}
+use Rattle.nm_slot.specs.SlotNow.{Doing, Stage, Offer, Own, SlotStep}
 use Rattle.nm_slot.specs.SlotNow.Doing.{Serves, Closes, Froze}
 use Rattle.nm_slot.specs.SlotNow.Stage.{Away, Here}
-use Rattle.nm_slot.specs.SlotNow.HandedOver.{Committed, Again, Dead}
-use Rattle.nm_slot.specs.SlotNow.SlotStep.{Entering, Leaving, Applying, Beginning, Freezing, Imaging, Committing, Abandoning, Accepting, Installing, Withdrawing}
+use Rattle.nm_slot.specs.SlotNow.HandedOver.{Committed}
+use Rattle.nm_slot.specs.SlotNow.SlotStep.{Applying, Beginning, Freezing, Committing, Abandoning, Installing}
 use Rattle.nm_slot.proofs.Facts.{Facts}
 use Rattle.nm_slot.proofs.HistoryFacts.{facts_of, begins_now}
-use Rattle.nm_slot.proofs.Inversions.{IsSource, is_source, phase_by, at_source, same_phase, changes_phase}
-use Rattle.nm_slot.proofs.Kept.{next, froze_number, committed_number, not_away, not_back}
+use Rattle.nm_slot.proofs.Inversions.{is_source, phase_by, at_source, same_phase, changes_phase}
+use Rattle.nm_slot.proofs.Kept.{next, froze_number, not_away, not_back}
 use Rattle.nm_slot.proofs.KeptHeld.{IsReady, is_ready, passed_to}
 use Rattle.nm_slot.proofs.Updates.{put, put_there, put_elsewhere}
 
@@ -136,17 +135,7 @@ stage_follows p begins move own fs grants entries passes s (Abandoning (abandon.
     back_follows p (seen fs grants entries) s n (own s) (column p (seen fs grants entries) s) refl a
 stage_follows p begins move own fs grants entries passes s (Installing n install.Now) a d facts =
     now_follows p (seen fs grants entries) s n (own s).held (column p (seen fs grants entries) s) (is_ready p begins move own (seen fs grants entries) s n a d.0 d.1 facts)
-stage_follows p begins move own fs grants entries passes s (Applying epoch call verdict x) a d facts = same_column p (seen fs grants entries) s (Applying epoch call verdict x) refl
-stage_follows p begins move own fs grants entries passes s (Beginning here dest x) a d facts = same_column p (seen fs grants entries) s (Beginning here dest x) refl
-stage_follows p begins move own fs grants entries passes s (Freezing x) a d facts = same_column p (seen fs grants entries) s (Freezing x) refl
-stage_follows p begins move own fs grants entries passes s (Committing n x) a d facts = same_column p (seen fs grants entries) s (Committing n x) refl
-stage_follows p begins move own fs grants entries passes s (Abandoning x) a d facts = same_column p (seen fs grants entries) s (Abandoning x) refl
-stage_follows p begins move own fs grants entries passes s (Installing n x) a d facts = same_column p (seen fs grants entries) s (Installing n x) refl
-stage_follows p begins move own fs grants entries passes s (Entering x) a d facts = same_column p (seen fs grants entries) s (Entering x) refl
-stage_follows p begins move own fs grants entries passes s (Leaving x) a d facts = same_column p (seen fs grants entries) s (Leaving x) refl
-stage_follows p begins move own fs grants entries passes s (Imaging x) a d facts = same_column p (seen fs grants entries) s (Imaging x) refl
-stage_follows p begins move own fs grants entries passes s (Accepting offer x) a d facts = same_column p (seen fs grants entries) s (Accepting offer x) refl
-stage_follows p begins move own fs grants entries passes s (Withdrawing n x) a d facts = same_column p (seen fs grants entries) s (Withdrawing n x) refl
+stage_follows p begins move own fs grants entries passes s step a d facts = same_column p (seen fs grants entries) s step refl
 
 -- a slot knows the destination of the move that is under way there
 same_dest : (p : Phase) (t : Seen) (s : ℕ) → dest_at (column p t s) ≡ dest_from p s
