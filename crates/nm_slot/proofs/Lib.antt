@@ -1,3 +1,4 @@
+pub mod MoveGetsOn
 pub mod Agreed
 pub mod Facts
 pub mod Freezes

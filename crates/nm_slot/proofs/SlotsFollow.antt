@@ -179,7 +179,7 @@ own_slot home h x it = λ i. record { fs = home.fs; stage = stage i; own = own i
 
 -- ---- the other servers
 
-away : (p : Phase) (t : Seen) (s : ℕ) → s ≢ source_of p → column p t s ≡ Away
+pub away : (p : Phase) (t : Seen) (s : ℕ) → s ≢ source_of p → column p t s ≡ Away
 away (At q) t s ne = rw (ne_eqb s q ne) refl
 away (Closing q dest number) t s ne = rw (ne_eqb s q ne) refl
 away (Frozen q dest number) t s ne = rw (ne_eqb s q ne) refl

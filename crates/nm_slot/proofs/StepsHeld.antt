@@ -32,6 +32,7 @@ offers_kept (Frozen source dest number) begins move own new t kept offers =
     subst (λ o. IsFrozen begins source dest number (move number) (new dest).held o) (same_offer number t (new source) (own source) kept.epoch kept.count) (record {
       latest = offers.latest;
       apart = offers.apart;
+      comes_from = offers.comes_from;
       goes_to = offers.goes_to;
       going = offers.going;
       offered = offers.offered;
@@ -75,6 +76,7 @@ offers_prepared (Frozen source dest number) begins move own t s n offer held mad
     (λ at. record {
       latest = at.latest;
       apart = at.apart;
+      comes_from = at.comes_from;
       goes_to = at.goes_to;
       going = at.going;
       offered = at.offered;

@@ -126,6 +126,7 @@ frozen s dest number begins move own t facts = record {
   offers = record {
     latest = facts.offers.latest;
     apart = facts.offers.apart;
+    comes_from = ap (λ (m : Move). m.source) facts.offers.fresh;
     goes_to = ap (λ (m : Move). m.dest) facts.offers.fresh;
     going = ap (λ (m : Move). m.fate) facts.offers.fresh;
     offered = λ its e. let none : (move number).offer ≡ None = ap (λ (m : Move). m.offer) facts.offers.fresh in cc;
@@ -153,6 +154,7 @@ imaged s dest number begins move own t facts = record {
   offers = subst (λ m. IsFrozen begins s dest number m (own dest).held (offer_now number t (own s))) (sym (put_there number offers move)) (record {
     latest = facts.offers.latest;
     apart = facts.offers.apart;
+    comes_from = facts.offers.comes_from;
     goes_to = facts.offers.goes_to;
     going = facts.offers.going;
     offered = λ its e. sym (some_same (offer_now number t (own s)) its e);
