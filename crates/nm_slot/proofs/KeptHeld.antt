@@ -182,11 +182,11 @@ is_ready p begins move own t s n a handed goes facts =
       state = refl;
     }
 
+pub passes_on : (source s n : ℕ) → source ≢ s → next (Passing source s n) s (Installing n install.Now) ≡ At s
+passes_on source s n apart = rw (ne_eqb s source (λ e. apart (sym e)), eq-eqb s s refl, eq-eqb n n refl) refl
+
 pub passed_to : (p : Phase) (t : Seen) (s n : ℕ) (o : Option Offer) → IsReady p t s n o → next p s (Installing n install.Now) ≡ At s
-passed_to p t s n o ready = ap (λ q. next q s (Installing n install.Now)) ready.phase ∙ by_tests
-  where
-    by_tests : next (Passing ready.source s n) s (Installing n install.Now) ≡ At s
-    by_tests = rw (ne_eqb s ready.source (λ e. ready.apart (sym e)), eq-eqb s s refl, eq-eqb n n refl) refl
+passed_to p t s n o ready = ap (λ q. next q s (Installing n install.Now)) ready.phase ∙ passes_on ready.source s n ready.apart
 
 pub now_kept : (p : Phase) (begins : ℕ) (move : ℕ → Move) (own : ℕ → Own) (t : Seen) (s n : ℕ) → install.Now ≡ install_by n (own s)
     → is_handed (move n).fate ≡ true → (move n).dest ≡ s
