@@ -1,1 +1,17 @@
+pub mod Agreed
+pub mod Facts
+pub mod Freezes
+pub mod HistoryFacts
+pub mod HistoryLaws
+pub mod Inversions
+pub mod Kept
+pub mod KeptHeld
+pub mod MoveGetsOn
+pub mod NeverComes
+pub mod PassesOut
+pub mod SlotsFollow
 pub mod StateLemmas
+pub mod StepsHeld
+pub mod StepsSettled
+pub mod StepsSource
+pub mod Updates

@@ -1,15 +1,19 @@
 //! Laws of every history of a file system: its servers' steps in any order, where what was sent may come late, more than
 //! once, or never. Each is the contract of a function that does nothing.
-ghost use Rattle.std.specs.Prelude.{◌≡◌, ◌≢◌, ◌↔◌, ℕ, List, ◌∷◌};
+ghost use Rattle.std.specs.Prelude.{◌≡◌, ◌≢◌, ◌↔◌, ℕ, true, false, List, ◌∷◌};
 ghost use Rattle.nm_rules.specs.Answer.{IsLegal};
+ghost use Rattle.nm_rules.specs.Holders.{holders};
+ghost use Rattle.nm_slot.specs.Answers.{is_at_end};
 ghost use Rattle.nm_slot.specs.SlotNow.{phase_of, SlotStep};
-ghost use Rattle.nm_slot.specs.SlotNow.SlotStep.{Entering, Installing};
+ghost use Rattle.nm_slot.specs.SlotNow.HandedOver.{Committed};
+ghost use Rattle.nm_slot.specs.SlotNow.SlotStep.{Entering, Committing, Installing};
 ghost use Rattle.nm_slot.specs.Changes.{slot_after};
 ghost use Rattle.nm_slot.specs.Door.{door_answer};
-ghost use Rattle.nm_slot.specs.History.{Home, IsHistory, slot_now, own_now, entries_now};
-ghost use Rattle.nm_slot.specs.Laws.{IsWhole, NeverComes};
+ghost use Rattle.nm_slot.specs.History.{Home, IsHistory, slot_now, own_now, entries_now, tables_now};
+ghost use Rattle.nm_slot.specs.Laws.{IsWhole, MayMoveTo, NeverComes};
+ghost use Rattle.nm_slot.specs.Moves.{move_now};
 ghost use Rattle.nm_slot.specs.Phases.{Moment, phase_now};
-ghost use Rattle.nm_slot.specs.Phases.Phase.{At};
+ghost use Rattle.nm_slot.specs.Phases.Phase.{At, Frozen, Passing};
 ghost use Rattle.nm_slot.specs.declared.answers.Enter.{Enter as AnyEnter};
 ghost use Rattle.nm_slot.specs.declared.answers.Install.TheVariants.{Now};
 ghost use Rattle.nm_slot.specs.declared.phase.Phase.TheVariants.{Serving};
@@ -49,4 +53,18 @@ pub fn the_door_is_accounted_for()
 /// The answers that never come.
 pub fn some_answers_never_come()
     ensures { (home : Home) (h : List Moment) (x : Moment) → IsHistory home (x ∷ h) → NeverComes x.step }
+{}
+
+/// A move gets on: a frozen source to which word came that its offer is held hands over, what was handed over can be
+/// installed, and from a server that serves, unless a number is at its end, a file system can get to any other.
+pub fn a_move_gets_on()
+    ensures hands_over { (home : Home) (h : List Moment) (source dest number : ℕ) → IsHistory home h
+        → phase_now home.first h ≡ Frozen source dest number → (move_now h number).prepared ≡ true
+        → IsHistory home (record { server = source; step = Committing number (Committed (holders (tables_now home h))) } ∷ h) }
+    ensures installs { (home : Home) (h : List Moment) (source dest number : ℕ) → IsHistory home h
+        → phase_now home.first h ≡ Passing source dest number
+        → IsHistory home (record { server = dest; step = Installing number Now } ∷ h) }
+    ensures gets_there { (home : Home) (h : List Moment) (source dest : ℕ) → IsHistory home h
+        → phase_now home.first h ≡ At source → source ≢ dest
+        → is_at_end (own_now home.first h source) ≡ false → MayMoveTo home h dest }
 {}
