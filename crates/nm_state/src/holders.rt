@@ -35,6 +35,7 @@ pub fn gather(rows: &[OpenRow], list: &mut Vec<Instance>) -> Result<(), Memory>
     ensures ok { OnOk result (list.new.items ≡ holders_of rows.now) }
     ensures full { OnErr result (vec_capacity list.old < length (holders_of rows.now)) }
 {
+    // From the last row on, as the definition has it.
     for at in (0..rows.len()).rev() {
         put(list, &rows[at].owner.instance)?;
     }

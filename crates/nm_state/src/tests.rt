@@ -8,9 +8,13 @@ use std::alloc::Global;
 use std::test::Fail;
 
 fn client(id: &[u8]) -> Result<Instance, Fail> {
+    start_of(id, 7)
+}
+
+fn start_of(id: &[u8], verifier: u64) -> Result<Instance, Fail> {
     let principal = Principal { flavor: 1, uid: 0 };
     Ok(
-        Instance::make(id, 7, principal)
+        Instance::make(id, verifier, principal)
             .ok()
             .ok_or("the string is short")?,
     )
@@ -163,5 +167,75 @@ fn what_is_held_is_shown_and_copied(rt: HostRuntime) -> Result<(), Fail> {
     assert_eq!(rt; rows[0].owner, Bytes::from_slice(alloc, b"o")?);
     assert_eq!(rt; rows[0].instance, a);
     assert_eq!(rt; rows[0].row, HeldKind::Open { access: 3, deny: 1 });
+    Ok(())
+}
+
+// An OPEN of the file `f` by an owner of that name, which reads and denies nothing.
+fn read_by(alloc: Global, caller: Instance, owner: &[u8]) -> Result<Event, Fail> {
+    let args = OpenArgs {
+        seqid: 1,
+        access: 1,
+        deny: 0,
+        owner: Bytes::from_slice(alloc, owner)?,
+        how: OpenHow::Unchecked,
+        claim: OpenClaim::Null(Bytes::from_slice(alloc, b"f")?),
+    };
+    Ok(asked(caller, 1, Deed::Open(args)))
+}
+
+// A state in which these three owners read `f`.
+fn read_by_three(
+    alloc: Global,
+    first: Instance,
+    second: Instance,
+    third: Instance,
+) -> Result<FsState, Fail> {
+    let mut state = no_files(alloc)?;
+    state.apply(&read_by(alloc, first, b"o")?)?;
+    state.apply(&read_by(alloc, second, b"o")?)?;
+    state.apply(&read_by(alloc, third, b"p")?)?;
+    Ok(state)
+}
+
+#[test]
+fn holders_come_in_order_and_once(rt: HostRuntime) -> Result<(), Fail> {
+    let alloc = rt.alloc();
+    let (a, b) = (client(b"A")?, client(b"B")?);
+    let state = read_by_three(alloc, b, a, b)?;
+    assert_eq!(rt; state.rows(), 3);
+    let holders = state.holders()?;
+    assert_eq!(rt; holders.len(), 2);
+    assert!(rt; holders.first() == Some(&a));
+    assert!(rt; holders.last() == Some(&b));
+    Ok(())
+}
+
+#[test]
+fn an_end_takes_its_instance_from_the_holders(rt: HostRuntime) -> Result<(), Fail> {
+    let alloc = rt.alloc();
+    let (a, b) = (client(b"A")?, client(b"B")?);
+    let mut state = read_by_three(alloc, b, a, b)?;
+    state.apply(&Event::Ended(b))?;
+    assert_eq!(rt; state.rows(), 1);
+    let holders = state.holders()?;
+    assert_eq!(rt; holders.len(), 1);
+    assert!(rt; holders.contains(&a));
+    Ok(())
+}
+
+// The holders, listed in just the room for as many as there are rows.
+fn listed(alloc: Global, state: &FsState) -> Result<Vec<Instance>, Fail> {
+    Ok(state.list_holders(Vec::with_capacity(alloc, state.rows())?))
+}
+
+#[test]
+fn holders_are_listed_in_room_that_is_there(rt: HostRuntime) -> Result<(), Fail> {
+    let alloc = rt.alloc();
+    let (early, late) = (start_of(b"A", 1)?, start_of(b"A", 2)?);
+    let state = read_by_three(alloc, late, late, early)?;
+    let holders = listed(alloc, &state)?;
+    assert_eq!(rt; holders.len(), 2);
+    assert!(rt; holders.first() == Some(&early));
+    assert!(rt; holders.last() == Some(&late));
     Ok(())
 }
