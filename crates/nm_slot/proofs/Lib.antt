@@ -8,6 +8,7 @@ pub mod Kept
 pub mod KeptHeld
 pub mod MoveGetsOn
 pub mod NeverComes
+pub mod OneHolder
 pub mod PassesOut
 pub mod SlotsFollow
 pub mod StateLemmas

@@ -92,10 +92,13 @@ pub installs : (home : Home) (h : List Moment) (source dest number : ℕ) → Is
     → phase_now home.first h ≡ Passing source dest number
     → IsHistory home (record { server = dest; step = Installing number install.Now } ∷ h)
 unfolding install_answer slot_now
-installs home h source dest number it passing = (record {
-  answered = installs_here number (offer_now number (tables_now home h) (own_now home.first h source)) (own_now home.first h dest) here.offers.ready refl;
-  delivered = (ap is_handed here.offers.going, here.offers.goes_to);
-}, it)
+installs home h source dest number it passing = (
+  record {
+    answered = installs_here number (offer_now number (tables_now home h) (own_now home.first h source)) (own_now home.first h dest) here.offers.ready refl;
+    delivered = (ap is_handed here.offers.going, here.offers.goes_to);
+  },
+  it,
+)
   where
     here : Facts (Passing source dest number) (begins_now h) (λ n. move_now h n) (λ s. own_now home.first h s) (tables_now home h)
     here = subst (λ p. Facts p (begins_now h) (λ n. move_now h n) (λ s. own_now home.first h s) (tables_now home h)) passing (facts_of home h it)
@@ -141,10 +144,13 @@ accepts : (home : Home) (h : List Moment) (source dest : ℕ) (offer : Offer) �
     → source ≢ dest → (own_now home.first h dest).known < offer.number → (move_now h offer.number).offer ≡ Some offer → (move_now h offer.number).dest ≡ dest
     → IsHistory home (accepting dest offer ∷ h)
 unfolding accept_answer slot_now
-accepts home h source dest offer it frozen apart new made goes = (record {
-  answered = accepts_there (phase_now home.first h) (tables_now home h) dest source dest offer.number (own_now home.first h dest) frozen (λ e. apart (sym e)) new;
-  delivered = (made, goes);
-}, it)
+accepts home h source dest offer it frozen apart new made goes = (
+  record {
+    answered = accepts_there (phase_now home.first h) (tables_now home h) dest source dest offer.number (own_now home.first h dest) frozen (λ e. apart (sym e)) new;
+    delivered = (made, goes);
+  },
+  it,
+)
 
 -- ---- what the steps leave
 

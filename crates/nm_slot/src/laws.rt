@@ -14,11 +14,21 @@ ghost use Rattle.nm_slot.specs.Laws.{IsWhole, MayMoveTo, NeverComes};
 ghost use Rattle.nm_slot.specs.Moves.{move_now};
 ghost use Rattle.nm_slot.specs.Phases.{Moment, phase_now};
 ghost use Rattle.nm_slot.specs.Phases.Phase.{At, Frozen, Passing};
+ghost use Rattle.nm_slot.specs.Runs.{slot_run, IsRun};
 ghost use Rattle.nm_slot.specs.declared.answers.Enter.{Enter as AnyEnter};
 ghost use Rattle.nm_slot.specs.declared.answers.Install.TheVariants.{Now};
 ghost use Rattle.nm_slot.specs.declared.phase.Phase.TheVariants.{Serving};
 
-/// One holder: what each call leaves of its server's slot is that server's column of the one phase, and no other slot
+/// One holder: however its servers' steps come, at most one slot serves a file system. Here each slot is what its own
+/// steps left, and answers by that alone; it is then its column of the one phase, so that runs are the histories below.
+pub fn one_holder()
+    ensures at_most_one { (home : Home) (h : List Moment) → IsRun home h → (s r : ℕ)
+        → phase_of (slot_run home h s) ≡ Serving → phase_of (slot_run home h r) ≡ Serving → s ≡ r }
+    ensures columns { (home : Home) (h : List Moment) → IsRun home h → (s : ℕ) → slot_run home h s ≡ slot_now home h s }
+    ensures histories { (home : Home) (h : List Moment) → IsRun home h ↔ IsHistory home h }
+{}
+
+/// One holder, a step at a time: what each call leaves of its server's slot is that server's column of the one phase, and no other slot
 /// changes. So where each slot begins as its column, it is its column at each moment.
 pub fn slots_follow_the_phase()
     ensures own { (home : Home) (h : List Moment) (x : Moment) → IsHistory home (x ∷ h)
