@@ -1,0 +1,61 @@
+//! Why an item, or the attributes of a file, aren't read.
+ghost use Rattle.std.specs.Prelude.{◌≡◌};
+
+use nm_rules::Memory;
+use nm_xdr::XdrFault;
+
+/// Why an item of a message isn't read.
+#[derive(Clone, Copy, Debug, PartialEq, Eq)]
+pub enum ReadFault {
+    /// The bytes aren't the item's.
+    Xdr(XdrFault),
+    /// There was no memory for what the item keeps.
+    Memory,
+}
+
+impl From<XdrFault> for ReadFault {
+    ghost use Rattle.nm_attrs.specs.declared.fault.ReadFault.TheVariants.{Xdr};
+
+    ghost from_gives = { λ e fault. fault ≡ Xdr e };
+
+    fn from(fault: XdrFault) -> Self {
+        ReadFault::Xdr(fault)
+    }
+}
+
+impl From<Memory> for ReadFault {
+    ghost use Rattle.nm_attrs.specs.declared.fault.ReadFault.TheVariants.{Memory as OutOfMemory};
+
+    ghost from_gives = { λ _ fault. fault ≡ OutOfMemory };
+
+    fn from(_: Memory) -> Self {
+        ReadFault::Memory
+    }
+}
+
+/// Why attributes aren't read: the first that holds.
+#[derive(Clone, Copy, Debug, PartialEq, Eq)]
+pub enum AttrFault {
+    /// An attribute isn't supported.
+    Unsupported {
+        /// The least number of such an attribute.
+        bit: u32,
+    },
+    /// The bytes aren't the values of the attributes, or they go on behind them.
+    Xdr(XdrFault),
+    /// There was no memory for what is kept.
+    Memory,
+}
+
+impl From<ReadFault> for AttrFault {
+    ghost use Rattle.nm_attrs.specs.Takes.{as_attr_fault};
+
+    ghost from_gives = { λ e fault. fault ≡ as_attr_fault e };
+
+    fn from(fault: ReadFault) -> Self {
+        match fault {
+            ReadFault::Xdr(fault) => AttrFault::Xdr(fault),
+            ReadFault::Memory => AttrFault::Memory,
+        }
+    }
+}
