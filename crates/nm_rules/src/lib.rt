@@ -3,6 +3,7 @@
 
 mod action;
 mod calls;
+mod cause;
 mod instance;
 mod items;
 mod laws;
@@ -20,6 +21,7 @@ pub use calls::{
     Call, CloseArgs, Deed, Entry, Event, OpenArgs, OpenClaim, OpenHow, Opened, Owner, OwnerKind,
     Recall, Recalls, Reply, ReplyValue, StateId, StateRef, Verdict,
 };
+pub use cause::Cause;
 pub use instance::{Instance, NameFault, Principal};
 pub use items::{Bytes, Items};
 pub use laws::{

@@ -1,10 +1,10 @@
 -- What one more line adds to what the lines so far say.
-use Rattle.std.proofs.Common.{◌≡◌, ℕ, suc, ◌<◌, ◌≤◌, ◌^◌, Bool, true, false, cond, not, eqb, ltb, leb, List, [], ◌∷◌, ◌++◌, length, get_or, map, Option, Some, None, Ok, Err, refl, sym, ap, subst, ◌∙◌, append_assoc, arith, inl, inr, All}
+use Rattle.std.proofs.Common.{◌≡◌, ℕ, suc, ◌<◌, ◌≤◌, ◌^◌, Bool, true, false, cond, not, leb, List, [], ◌∷◌, ◌++◌, length, get_or, map, Option, Some, None, Ok, Err, refl, sym, ap, subst, ◌∙◌, append_assoc, arith, inl, inr, All}
 use Rattle.std.specs.Prelude.{◌||◌, ◌&&◌, codes}
 use Rattle.std.specs.List.{list_any}
 use Rattle.std.specs.Str.{bytes_eq}
-use Rattle.std.proofs.lemmas.Bool.{cases_lt, leb-true, ltb-true, eqb-true}
-use Rattle.std.proofs.lemmas.List.{append-nil, length-append, map-append, nil_from_length}
+use Rattle.std.proofs.lemmas.Bool.{cases_lt, leb-true, leb-false}
+use Rattle.std.proofs.lemmas.List.{append-nil, length-append, map-append}
 use Rattle.std.proofs.lemmas.List.Folds.{list_any-append}
 use Rattle.std.proofs.lemmas.List.Elements.{All-push, All-nil}
 use Rattle.nm_script.specs.declared.script.Head.{Head}
@@ -18,7 +18,7 @@ use Rattle.nm_script.specs.declared.order.Kind.{Kind}
 use Rattle.nm_script.specs.declared.order.Kind.TheVariants as kind
 use Rattle.nm_script.specs.Words.{has_empty_word, number_at, is_name}
 use Rattle.nm_script.specs.Grammar.{server_names, file_system_names, client_names, all_names, all_differ, version_words, lease_words, server_words, file_system_words, client_words, run_words, IsName, IsRun}
-use Rattle.nm_script.specs.Reading.{kind_of, first_kind, may_follow, is_new_name, is_server, is_file_system, is_client, server_number, version_at, lease_at, with_server, server_at, with_file_system, file_system_at, with_client, client_at, run_line, run_at, kind_at, words_at, is_client_kind, is_past_clients}
+use Rattle.nm_script.specs.Reading.{kind_of, first_kind, may_follow, is_new_name, is_server, is_file_system, is_client, server_number, version_at, lease_at, with_server, server_at, with_file_system, file_system_at, with_client, client_at, run_line, run_at, kind_at, words_at, is_full, is_past_last}
 use Rattle.nm_script.proofs.WordLaws.{or_false, and_true, not_true, chosen, same_word, name_found, name_again, number_found}
 use Rattle.nm_script.proofs.RunLaws.{bind_ok, ok_is, guard_ok, place_found, run_found}
 
@@ -210,8 +210,9 @@ pub record IsDraft (d : Draft) : Type 0 where
   pub no_lines : rank d.last < 6 → d.lines ≡ []
   pub lease_some : 1 < rank d.last → 1 ≤ d.head.lease
   pub lease_limit : 1 < rank d.last → d.head.lease ≤ 3600
-  pub server : 2 < rank d.last → length d.head.servers ≡ 1
-  pub file_systems : length d.head.file_systems ≤ 1
+  pub some_server : 2 < rank d.last → 1 ≤ length d.head.servers
+  pub servers : length d.head.servers ≤ 16
+  pub file_systems : length d.head.file_systems ≤ 64
   pub clients : length d.head.clients ≤ 64
   pub names : All IsName (all_names d.head)
   pub differ : all_differ (all_names d.head) ≡ true
@@ -273,6 +274,15 @@ body_to_clients d l = nothing_behind (run_words d.head) d.lines (to_clients d) l
 body_to_file_systems : (d : Draft) → d.head.clients ≡ [] → d.lines ≡ [] → body d ≡ to_file_systems d
 body_to_file_systems d c l = body_to_clients d l ∙ nothing_behind client_words d.head.clients (to_file_systems d) c
 
+body_to_servers : (d : Draft) → d.head.file_systems ≡ [] → d.head.clients ≡ [] → d.lines ≡ [] → body d ≡ map server_words d.head.servers
+body_to_servers d f c l = body_to_file_systems d c l ∙ nothing_behind (file_system_words d.head) d.head.file_systems (map server_words d.head.servers) f
+
+body_served : (d : Draft) (row : ServerRow) → d.head.file_systems ≡ [] → d.head.clients ≡ [] → d.lines ≡ [] → body (served d row) ≡ body d ++ server_words row ∷ []
+body_served d row f c l =
+    body_to_servers (served d row) f c l
+    ∙ push_there server_words [] d.head.servers row
+    ∙ ap (λ b. b ++ server_words row ∷ []) (sym (body_to_servers d f c l))
+
 body_placed : (d : Draft) (row : FsRow) → d.head.clients ≡ [] → d.lines ≡ [] → body (placed d row) ≡ body d ++ file_system_words d.head row ∷ []
 body_placed d row c l =
     body_to_file_systems (placed d row) c l
@@ -288,6 +298,13 @@ body_joined d row l =
 body_ran : (d : Draft) (line : Line) → body (ran d line) ≡ body d ++ run_words d.head line ∷ []
 body_ran d line = push_there (run_words d.head) (to_clients d) d.lines line
 
+-- one name more
+pub served_names : (d : Draft) (row : ServerRow) → d.head.file_systems ≡ [] → d.head.clients ≡ [] → all_names (served d row).head ≡ all_names d.head ++ row.name ∷ []
+served_names d row f c = rw (f, c, append-nil (server_names d.head)) (push_there (λ (server : ServerRow). server.name) [] d.head.servers row)
+
+pub placed_names : (d : Draft) (row : FsRow) → d.head.clients ≡ [] → all_names (placed d row).head ≡ all_names d.head ++ row.name ∷ []
+placed_names d row c = rw (c, append-nil (server_names d.head ++ file_system_names d.head)) (push_there (λ (place : FsRow). place.name) (server_names d.head) d.head.file_systems row)
+
 add_version : (d : Draft) → IsDraft d → rank d.last ≡ 0 → Adds d version_words (versioned d)
 add_version d is low =
     let nothing : body d ≡ [] = empty_body d is (omega arith) in
@@ -300,7 +317,8 @@ add_version d is low =
         no_lines = λ _. is.no_lines (omega arith);
         lease_some = λ lt. absurd (omega arith);
         lease_limit = λ lt. absurd (omega arith);
-        server = λ lt. absurd (omega arith);
+        some_server = λ lt. absurd (omega arith);
+        servers = is.servers;
         file_systems = is.file_systems;
         clients = is.clients;
         names = is.names;
@@ -326,7 +344,8 @@ add_lease d seconds is low some limit =
         no_lines = λ _. l;
         lease_some = λ _. some;
         lease_limit = λ _. limit;
-        server = λ lt. absurd (omega arith);
+        some_server = λ lt. absurd (omega arith);
+        servers = is.servers;
         file_systems = is.file_systems;
         clients = is.clients;
         names = is.names;
@@ -337,15 +356,14 @@ add_lease d seconds is low some limit =
       };
     }
 
-add_server : (d : Draft) (row : ServerRow) → IsDraft d → rank d.last ≡ 2 → IsName row.name → is_among row.name (all_names d.head) ≡ false → Adds d (server_words row) (served d row)
-add_server d row is low name new =
-    let s : d.head.servers ≡ [] = is.no_servers (omega arith) in
+add_server : (d : Draft) (row : ServerRow) → IsDraft d → 2 ≤ rank d.last → rank d.last ≤ 3 → length d.head.servers < 16 → IsName row.name → is_among row.name (all_names d.head) ≡ false → Adds d (server_words row) (served d row)
+add_server d row is low high few name new =
     let f : d.head.file_systems ≡ [] = is.no_file_systems (omega arith) in
     let c : d.head.clients ≡ [] = is.no_clients (omega arith) in
     let l : d.lines ≡ [] = is.no_lines (omega arith) in
-    let names_are : all_names (served d row).head ≡ all_names d.head ++ row.name ∷ [] = rw (s, f, c) refl in
+    let names_are : all_names (served d row).head ≡ all_names d.head ++ row.name ∷ [] = served_names d row f c in
     record {
-      said_then = rw (front_full d.last d.head.lease (omega arith), s, f, c, l) refl;
+      said_then = said_push (front d.last d.head.lease) _ (body d) (body (served d row)) (server_words row) (sym (front_full d.last d.head.lease (omega arith))) (body_served d row f c l);
       is = record {
         no_servers = λ lt. absurd (omega arith);
         no_file_systems = λ _. f;
@@ -353,7 +371,8 @@ add_server d row is low name new =
         no_lines = λ _. l;
         lease_some = λ _. is.lease_some (omega arith);
         lease_limit = λ _. is.lease_limit (omega arith);
-        server = λ _. rw s refl;
+        some_server = λ _. omega (arith, length-append d.head.servers (row ∷ []));
+        servers = omega (arith, length-append d.head.servers (row ∷ []));
         file_systems = is.file_systems;
         clients = is.clients;
         names = subst (All IsName) (sym names_are) (All-push IsName (all_names d.head) row.name is.names name);
@@ -364,11 +383,11 @@ add_server d row is low name new =
       };
     }
 
-add_file_system : (d : Draft) (row : FsRow) → IsDraft d → 3 ≤ rank d.last → rank d.last ≤ 4 → d.head.file_systems ≡ [] → IsName row.name → is_among row.name (all_names d.head) ≡ false → row.at < length d.head.servers → Adds d (file_system_words d.head row) (placed d row)
-add_file_system d row is low high f name new at =
+add_file_system : (d : Draft) (row : FsRow) → IsDraft d → 3 ≤ rank d.last → rank d.last ≤ 4 → length d.head.file_systems < 64 → IsName row.name → is_among row.name (all_names d.head) ≡ false → row.at < length d.head.servers → Adds d (file_system_words d.head row) (placed d row)
+add_file_system d row is low high few name new at =
     let c : d.head.clients ≡ [] = is.no_clients (omega arith) in
     let l : d.lines ≡ [] = is.no_lines (omega arith) in
-    let names_are : all_names (placed d row).head ≡ all_names d.head ++ row.name ∷ [] = rw (f, c) (simp append-nil) in
+    let names_are : all_names (placed d row).head ≡ all_names d.head ++ row.name ∷ [] = placed_names d row c in
     record {
       said_then = said_push (front d.last d.head.lease) _ (body d) (body (placed d row)) (file_system_words d.head row) (sym (front_full d.last d.head.lease (omega arith))) (body_placed d row c l);
       is = record {
@@ -378,8 +397,9 @@ add_file_system d row is low high f name new at =
         no_lines = λ _. l;
         lease_some = λ _. is.lease_some (omega arith);
         lease_limit = λ _. is.lease_limit (omega arith);
-        server = λ _. is.server (omega arith);
-        file_systems = rw f (omega arith);
+        some_server = λ _. is.some_server (omega arith);
+        servers = is.servers;
+        file_systems = omega (arith, length-append d.head.file_systems (row ∷ []));
         clients = is.clients;
         names = subst (All IsName) (sym names_are) (All-push IsName (all_names d.head) row.name is.names name);
         differ = ap all_differ names_are ∙ differ_push (all_names d.head) row.name is.differ new;
@@ -402,7 +422,8 @@ add_client d row is low high few name new verifier =
         no_lines = λ _. l;
         lease_some = λ _. is.lease_some (omega arith);
         lease_limit = λ _. is.lease_limit (omega arith);
-        server = λ _. is.server (omega arith);
+        some_server = λ _. is.some_server (omega arith);
+        servers = is.servers;
         file_systems = is.file_systems;
         clients = omega (arith, length-append d.head.clients (row ∷ []));
         names = subst (All IsName) (sym names_are) (All-push IsName (all_names d.head) row.name is.names name);
@@ -423,7 +444,8 @@ add_run d line is low fits = record {
     no_lines = λ lt. absurd (omega arith);
     lease_some = λ _. is.lease_some (omega arith);
     lease_limit = λ _. is.lease_limit (omega arith);
-    server = λ _. is.server (omega arith);
+    some_server = λ _. is.some_server (omega arith);
+    servers = is.servers;
     file_systems = is.file_systems;
     clients = is.clients;
     names = is.names;
@@ -460,12 +482,12 @@ lease_found d e (w ∷ word ∷ []) is next h first =
     (add_lease d x.0 is (omega (arith, next.rises, next.steps)) (leb-true 1 x.0 limits.0) (leb-true x.0 3600 limits.1)))
 lease_found d e (w ∷ word ∷ more ∷ words) is next h first = absurd cc
 
--- a server that comes first comes behind the lease
-server_due : (last count : ℕ) → Follows last 3 → count ≡ 0 → (2 < last → count ≡ 1) → last ≡ 2
-server_due last count next none one =
+-- a server comes behind the lease or behind a server
+at_servers : (last : ℕ) → Follows last 3 → (2 ≤ last) × (last ≤ 3)
+at_servers last next =
     elim (cases_lt last 3) [
-      | inl lt ↦ omega (arith, next.steps lt)
-      | inr le ↦ absurd (omega (arith, one (omega arith)))
+      | inl lt ↦ (omega (arith, next.steps lt), omega arith)
+      | inr le ↦ (omega arith, next.rises)
     ]
 
 -- what comes behind a server
@@ -476,53 +498,44 @@ behind_server last next f far =
       | inr le ↦ le
     ]
 
-server_found : (d e : Draft) (words : List (List ℕ)) → IsDraft d → Follows (rank d.last) 3 → server_at d words ≡ Ok e → IsFirst kind.Server (get_or words 0 []) → Adds d words e
+server_found : (d e : Draft) (words : List (List ℕ)) → IsDraft d → Follows (rank d.last) 3 → length d.head.servers < 16 → server_at d words ≡ Ok e → IsFirst kind.Server (get_or words 0 []) → Adds d words e
 unfolding server_at with_server
-server_found d e [] is next h first = absurd cc
-server_found d e (w ∷ []) is next h first = absurd cc
-server_found d e (w ∷ name ∷ []) is next h first =
+server_found d e [] is next few h first = absurd cc
+server_found d e (w ∷ []) is next few h first = absurd cc
+server_found d e (w ∷ name ∷ []) is next few h first =
     let row : ServerRow = record { name = name } in
-    elim (chosen (not (eqb (length d.head.servers) 0)) (Err why.Word) _ (Ok e) h) [
-      | inl no_more ↦ absurd cc
-      | inr f ↦
-          let g = guard_ok (is_new_name d.head name) why.Name (served d row) e f.1 in
-          let n = new_found d.head name g.0 in
-          let few : length d.head.servers ≡ 0 = eqb-true _ _ (not_false _ f.0) in
-          let low : rank d.last ≡ 2 = server_due (rank d.last) (length d.head.servers) next few is.server in
-          subst (Adds d (w ∷ name ∷ [])) g.1 (subst (λ (x : List ℕ). Adds d (x ∷ name ∷ []) (served d row)) (sym first) (add_server d row is low n.0 n.1))
-    ]
-server_found d e (w ∷ name ∷ more ∷ words) is next h first = absurd cc
+    let g = guard_ok (is_new_name d.head name) why.Name (served d row) e h in
+    let n = new_found d.head name g.0 in
+    let behind = at_servers (rank d.last) next in
+    subst (Adds d (w ∷ name ∷ [])) g.1 (subst (λ (x : List ℕ). Adds d (x ∷ name ∷ []) (served d row)) (sym first) (add_server d row is behind.0 behind.1 few n.0 n.1))
+server_found d e (w ∷ name ∷ more ∷ words) is next few h first = absurd cc
 
-file_system_found : (d e : Draft) (words : List (List ℕ)) → IsDraft d → Follows (rank d.last) 4 → file_system_at d words ≡ Ok e → IsFirst kind.FileSystem (get_or words 0 []) → Adds d words e
+file_system_found : (d e : Draft) (words : List (List ℕ)) → IsDraft d → Follows (rank d.last) 4 → length d.head.file_systems < 64 → file_system_at d words ≡ Ok e → IsFirst kind.FileSystem (get_or words 0 []) → Adds d words e
 unfolding file_system_at with_file_system
-file_system_found d e [] is next h first = absurd cc
-file_system_found d e (w ∷ []) is next h first = absurd cc
-file_system_found d e (w ∷ name ∷ []) is next h first = absurd cc
-file_system_found d e (w ∷ name ∷ keyword ∷ []) is next h first = absurd cc
-file_system_found d e (w ∷ name ∷ keyword ∷ server ∷ []) is next h first =
+file_system_found d e [] is next few h first = absurd cc
+file_system_found d e (w ∷ []) is next few h first = absurd cc
+file_system_found d e (w ∷ name ∷ []) is next few h first = absurd cc
+file_system_found d e (w ∷ name ∷ keyword ∷ []) is next few h first = absurd cc
+file_system_found d e (w ∷ name ∷ keyword ∷ server ∷ []) is next few h first =
     let row : ℕ → FsRow = λ at. record { name = name; at = at } in
-    elim (chosen (not (eqb (length d.head.file_systems) 0)) (Err why.Word) _ (Ok e) h) [
-      | inl no_more ↦ absurd cc
-      | inr f ↦ elim (chosen (not (bytes_eq keyword (codes "at"))) (Err why.Word) _ (Ok e) f.1) [
-        | inl other ↦ absurd cc
-        | inr g ↦ elim (chosen (not (is_new_name d.head name)) (Err why.Name) _ (Ok e) g.1) [
-          | inl old ↦ absurd cc
-          | inr k ↦
-              let x = bind_ok (server_number d.head server) (λ at. Ok (placed d (row at))) e k.1 in
-              let at = place_found (λ (r : ServerRow). r.name) (record { name = [] }) 16 d.head.servers server x.0 x.1 in
-              let n = new_found d.head name (not_false _ k.0) in
-              let none : d.head.file_systems ≡ [] = nil_from_length _ (eqb-true _ _ (not_false _ f.0)) in
-              let words_are : w ∷ name ∷ keyword ∷ server ∷ [] ≡ file_system_words d.head (row x.0) =
-              ap (λ (y : List ℕ). y ∷ name ∷ keyword ∷ server ∷ []) first
-              ∙ ap (λ (y : List ℕ). codes "fs" ∷ name ∷ y ∷ server ∷ []) (same_word keyword (codes "at") (not_false _ g.0))
-              ∙ ap (λ (y : List ℕ). codes "fs" ∷ name ∷ codes "at" ∷ y ∷ []) at.1 in
-              subst (Adds d (w ∷ name ∷ keyword ∷ server ∷ [])) (ok_is _ e x.2)
-              (subst (λ ws. Adds d ws (placed d (row x.0))) (sym words_are)
-              (add_file_system d (row x.0) is (behind_server _ 4 next (omega arith)) next.rises none n.0 n.1 at.0))
-        ]
+    elim (chosen (not (bytes_eq keyword (codes "at"))) (Err why.Word) _ (Ok e) h) [
+      | inl other ↦ absurd cc
+      | inr g ↦ elim (chosen (not (is_new_name d.head name)) (Err why.Name) _ (Ok e) g.1) [
+        | inl old ↦ absurd cc
+        | inr k ↦
+            let x = bind_ok (server_number d.head server) (λ at. Ok (placed d (row at))) e k.1 in
+            let at = place_found (λ (r : ServerRow). r.name) (record { name = [] }) 16 d.head.servers server x.0 x.1 in
+            let n = new_found d.head name (not_false _ k.0) in
+            let words_are : w ∷ name ∷ keyword ∷ server ∷ [] ≡ file_system_words d.head (row x.0) =
+            ap (λ (y : List ℕ). y ∷ name ∷ keyword ∷ server ∷ []) first
+            ∙ ap (λ (y : List ℕ). codes "fs" ∷ name ∷ y ∷ server ∷ []) (same_word keyword (codes "at") (not_false _ g.0))
+            ∙ ap (λ (y : List ℕ). codes "fs" ∷ name ∷ codes "at" ∷ y ∷ []) at.1 in
+            subst (Adds d (w ∷ name ∷ keyword ∷ server ∷ [])) (ok_is _ e x.2)
+            (subst (λ ws. Adds d ws (placed d (row x.0))) (sym words_are)
+            (add_file_system d (row x.0) is (behind_server _ 4 next (omega arith)) next.rises few n.0 n.1 at.0))
       ]
     ]
-file_system_found d e (w ∷ name ∷ keyword ∷ server ∷ more ∷ words) is next h first = absurd cc
+file_system_found d e (w ∷ name ∷ keyword ∷ server ∷ more ∷ words) is next few h first = absurd cc
 
 client_found : (d e : Draft) (words : List (List ℕ)) → IsDraft d → Follows (rank d.last) 5 → length d.head.clients < 64 → client_at d words ≡ Ok e → IsFirst kind.Client (get_or words 0 []) → Adds d words e
 unfolding client_at with_client
@@ -553,39 +566,36 @@ run_line_found d e words is next h =
     subst (Adds d words) (ok_is _ e x.2)
     (subst (λ ws. Adds d ws (ran d x.0)) (sym r.0) (add_run d x.0 is (behind_server _ 6 next (omega arith)) r.1))
 
-kind_found : (d e : Draft) (words : List (List ℕ)) (k : Kind) → IsDraft d → Follows (rank d.last) (rank (Some k)) → (k ≡ kind.Client → length d.head.clients < 64) → kind_at k d words ≡ Ok e → IsFirst k (get_or words 0 []) → Adds d words e
+kind_found : (d e : Draft) (words : List (List ℕ)) (k : Kind) → IsDraft d → Follows (rank d.last) (rank (Some k)) → is_full d.head k ≡ false → kind_at k d words ≡ Ok e → IsFirst k (get_or words 0 []) → Adds d words e
+unfolding is_full
 kind_found d e words kind.Version is next few h first = version_found d e words is next h first
 kind_found d e words kind.Lease is next few h first = lease_found d e words is next h first
-kind_found d e words kind.Server is next few h first = server_found d e words is next h first
-kind_found d e words kind.FileSystem is next few h first = file_system_found d e words is next h first
-kind_found d e words kind.Client is next few h first = client_found d e words is next (few refl) h first
+kind_found d e words kind.Server is next few h first = server_found d e words is next (leb-false _ _ few) h first
+kind_found d e words kind.FileSystem is next few h first = file_system_found d e words is next (leb-false _ _ few) h first
+kind_found d e words kind.Client is next few h first = client_found d e words is next (leb-false _ _ few) h first
 kind_found d e words kind.Run is next few h first = run_line_found d e words is next h
 
 first_is : (words : List (List ℕ)) → IsFirst (first_kind words) (get_or words 0 [])
 first_is [] = tt
 first_is (first ∷ words) = kind_first first
 
-first_false : (a b c : Bool) → (a && b && c) ≡ false → b ≡ true → c ≡ true → a ≡ false
-first_false true true true e p q = absurd cc
-first_false true true false e p q = absurd cc
-first_false true false c e p q = absurd cc
-first_false false b c e p q = refl
+first_false : (a b : Bool) → (a && b) ≡ false → b ≡ true → a ≡ false
+first_false true true e p = absurd cc
+first_false true false e p = absurd cc
+first_false false b e p = refl
 
-clients_left : (d : Draft) (words : List (List ℕ)) → is_past_clients d words ≡ false → may_follow d.last (first_kind words) ≡ true → first_kind words ≡ kind.Client → length d.head.clients < 64
-unfolding is_past_clients
-clients_left d words few next is =
-    let full : not (ltb (length d.head.clients) 64) ≡ false =
-    first_false (not (ltb (length d.head.clients) 64)) (is_client_kind (first_kind words)) (may_follow d.last kind.Client) few (ap is_client_kind is) (ap (may_follow d.last) (sym is) ∙ next) in
-    ltb-true _ _ (not_false _ full)
+room_left : (d : Draft) (words : List (List ℕ)) → is_past_last d words ≡ false → may_follow d.last (first_kind words) ≡ true → is_full d.head (first_kind words) ≡ false
+unfolding is_past_last
+room_left d words few next = first_false (is_full d.head (first_kind words)) (may_follow d.last (first_kind words)) few next
 
 -- a line that is taken adds its words
-pub words_found : (d e : Draft) (words : List (List ℕ)) → IsDraft d → is_past_clients d words ≡ false → words_at d words ≡ Ok e → Adds d words e
+pub words_found : (d e : Draft) (words : List (List ℕ)) → IsDraft d → is_past_last d words ≡ false → words_at d words ≡ Ok e → Adds d words e
 unfolding words_at
 words_found d e words is few h =
     elim (chosen (not (may_follow d.last (first_kind words))) (Err why.Head) _ (Ok e) h) [
       | inl out ↦ absurd cc
       | inr f ↦ elim (chosen (has_empty_word words) (Err why.Word) (kind_at (first_kind words) d words) (Ok e) f.1) [
         | inl some ↦ absurd cc
-        | inr g ↦ kind_found d e words (first_kind words) is (follows d.last (first_kind words) (not_false _ f.0)) (clients_left d words few (not_false _ f.0)) g.1 (first_is words)
+        | inr g ↦ kind_found d e words (first_kind words) is (follows d.last (first_kind words) (not_false _ f.0)) (room_left d words few (not_false _ f.0)) g.1 (first_is words)
       ]
     ]

@@ -13,12 +13,12 @@ use Rattle.nm_rules.specs.declared.action.OpenAction.{OpenAction}
 use Rattle.nm_rules.specs.declared.action.CloseAction.{CloseAction}
 use Rattle.nm_script.specs.declared.script.Head.{Head}
 use Rattle.nm_script.specs.declared.script.Line.{Line}
-use Rattle.nm_script.specs.declared.script.Line.TheVariants.{Do, Show}
+use Rattle.nm_script.specs.declared.script.Line.TheVariants.{Do, Finish, Move, Freeze, Abandon, Commit, Settle, Shift, Show}
 use Rattle.nm_script.specs.declared.script.Why.{Why}
 use Rattle.nm_script.specs.declared.script.Why.TheVariants as why
 use Rattle.nm_script.specs.Words.{is_name, is_file_name, access_at, deny_at}
-use Rattle.nm_script.specs.Grammar.{name_at, file_system_names, client_names, access_word, deny_word, open_words, close_words, action_words, run_words, all_differ, IsOpen, IsClose, IsAction, IsRun}
-use Rattle.nm_script.specs.Reading.{◌>>=◌, place_below, file_system_number, client_number, open_action, close_action, action_at, do_at, show_of, show_at, run_line}
+use Rattle.nm_script.specs.Grammar.{name_at, server_names, file_system_names, client_names, access_word, deny_word, open_words, close_words, action_words, fs_words, fs_to_words, run_words, all_differ, IsOpen, IsClose, IsAction, IsRun}
+use Rattle.nm_script.specs.Reading.{◌>>=◌, place_below, server_number, file_system_number, client_number, open_action, close_action, action_at, action_line, finish_line, do_at, with_fs, with_fs_to, fs_line, fs_to_line, fs_at, run_line}
 use Rattle.nm_script.proofs.WordLaws.{or_false, and_true, not_true, chosen, same_word, word_itself, has_space, IsWord, name_found, name_again, name_is_word, file_name_found, file_name_again, file_name_is_word, access_found, access_again, access_is_word, deny_found, deny_again, deny_is_word}
 
 -- the value of a step that did not fail
@@ -80,12 +80,21 @@ module _ {X : Type 0} (f : X → List ℕ) (d : X) where
 -- ---- the parts of a head that lines need
 
 pub record HasNames (head : Head) : Type 0 where
+  pub servers : all_differ (server_names head) ≡ true
   pub file_systems : all_differ (file_system_names head) ≡ true
   pub clients : all_differ (client_names head) ≡ true
+  pub servers_few : length head.servers ≤ 16
   pub file_systems_few : length head.file_systems ≤ 64
   pub clients_few : length head.clients ≤ 64
+  pub server_words : AllByRecursion IsWord (server_names head)
   pub file_system_words : AllByRecursion IsWord (file_system_names head)
   pub client_words : AllByRecursion IsWord (client_names head)
+
+server_found : (head : Head) (word : List ℕ) (k : ℕ) → server_number head word ≡ Ok k → (k < length head.servers) × (word ≡ name_at (server_names head) k)
+server_found head word k e = place_found (λ row. row.name) (record { name = [] }) 16 head.servers word k e
+
+server_again : (head : Head) (k : ℕ) → HasNames head → k < length head.servers → server_number head (name_at (server_names head) k) ≡ Ok k
+server_again head k names lt = place_again (λ row. row.name) (record { name = [] }) 16 head.servers k names.servers names.servers_few lt
 
 file_system_found : (head : Head) (word : List ℕ) (k : ℕ) → file_system_number head word ≡ Ok k → (k < length head.file_systems) × (word ≡ name_at (file_system_names head) k)
 file_system_found head word k e = place_found (λ row. row.name) (record { name = []; at = 0 }) 64 head.file_systems word k e
@@ -103,6 +112,9 @@ pub word_in : (names : List (List ℕ)) (k : ℕ) → AllByRecursion IsWord name
 word_in [] k are lt = absurd (omega arith)
 word_in (n ∷ ns) zero are lt = are.0
 word_in (n ∷ ns) (suc k) are lt = word_in ns k are.1 (omega arith)
+
+server_is_word : (head : Head) (k : ℕ) → HasNames head → k < length head.servers → IsWord (name_at (server_names head) k)
+server_is_word head k names lt = word_in (server_names head) k names.server_words (omega (arith, length-map head.servers (λ row. row.name)))
 
 file_system_is_word : (head : Head) (k : ℕ) → HasNames head → k < length head.file_systems → IsWord (name_at (file_system_names head) k)
 file_system_is_word head k names lt = word_in (file_system_names head) k names.file_system_words (omega (arith, length-map head.file_systems (λ row. row.name)))
@@ -196,51 +208,113 @@ action_found head verb (f ∷ file ∷ access_text ∷ deny_text ∷ owner ∷ m
 
 -- ---- lines
 
-do_found : (head : Head) (words : List (List ℕ)) (line : Line) → do_at head words ≡ Ok line → (codes "do" ∷ words ≡ run_words head line) × IsRun head line
-unfolding do_at
-do_found head [] line e = absurd cc
-do_found head (c ∷ []) line e = absurd cc
-do_found head (c ∷ verb ∷ words) line e =
+-- the words say the line, and it is in its form
+abbrev IsSaid : Head → List (List ℕ) → Line → Type 0
+IsSaid head words line = (words ≡ run_words head line) × IsRun head line
+
+action_line_found : (head : Head) (c verb : List ℕ) (words : List (List ℕ)) (line : Line) → action_line head c verb words ≡ Ok line → IsSaid head (codes "do" ∷ c ∷ verb ∷ words) line
+unfolding action_line
+action_line_found head c verb words line e =
     let x = bind_ok (action_at head verb words) (λ a. client_number head c >>= λ client. done (Do client a)) line e in
     let y = bind_ok (client_number head c) (λ client. done (Do client x.0)) line x.2 in
     let action = action_found head verb words x.0 x.1 in
     let at = client_found head c y.0 y.1 in
-    subst (λ (l : Line). (codes "do" ∷ c ∷ verb ∷ words ≡ run_words head l) × IsRun head l) (ok_is (Do y.0 x.0) line y.2)
+    subst (IsSaid head (codes "do" ∷ c ∷ verb ∷ words)) (ok_is (Do y.0 x.0) line y.2)
     (ap (λ (w : List ℕ). codes "do" ∷ w ∷ verb ∷ words) at.1 ∙ ap (λ (ws : List (List ℕ)). codes "do" ∷ name_at (client_names head) y.0 ∷ ws) action.0, (at.0, action.1))
 
-show_found : (head : Head) (words : List (List ℕ)) (line : Line) → show_at head words ≡ Ok line → (codes "show" ∷ words ≡ run_words head line) × IsRun head line
-unfolding show_at show_of
-show_found head [] line e = absurd cc
-show_found head (f ∷ []) line e =
-    let x = bind_ok (file_system_number head f) (λ fs. done (Show fs)) line e in
-    let at = file_system_found head f x.0 x.1 in
-    subst (λ (l : Line). (codes "show" ∷ f ∷ [] ≡ run_words head l) × IsRun head l) (ok_is (Show x.0) line x.2)
-    (ap (λ (w : List ℕ). codes "show" ∷ w ∷ []) at.1, at.0)
-show_found head (f ∷ more ∷ words) line e = absurd cc
+finish_line_found : (head : Head) (c verb : List ℕ) (line : Line) → finish_line head c verb ≡ Ok line → IsSaid head (codes "do" ∷ c ∷ verb ∷ []) line
+unfolding finish_line
+finish_line_found head c verb line e =
+    elim (chosen (bytes_eq verb (codes "finish")) (client_number head c >>= λ client. done (Finish client)) (Err why.Word) (Ok line) e) [
+      | inl h ↦
+          let x = bind_ok (client_number head c) (λ client. done (Finish client)) line h.1 in
+          let at = client_found head c x.0 x.1 in
+          subst (IsSaid head (codes "do" ∷ c ∷ verb ∷ [])) (ok_is (Finish x.0) line x.2)
+          (ap (λ (w : List ℕ). codes "do" ∷ w ∷ verb ∷ []) at.1 ∙ ap (λ (w : List ℕ). codes "do" ∷ name_at (client_names head) x.0 ∷ w ∷ []) (same_word verb (codes "finish") h.0), at.0)
+      | inr h ↦ absurd cc
+    ]
+
+do_found : (head : Head) (words : List (List ℕ)) (line : Line) → do_at head words ≡ Ok line → IsSaid head (codes "do" ∷ words) line
+unfolding do_at
+do_found head [] line e = absurd cc
+do_found head (c ∷ []) line e = absurd cc
+do_found head (c ∷ verb ∷ []) line e = finish_line_found head c verb line e
+do_found head (c ∷ verb ∷ word ∷ words) line e = action_line_found head c verb (word ∷ words) line e
+
+-- a line by its verb, or by one of the verbs behind it
+by_verb : (head : Head) (verb key : List ℕ) (words : List (List ℕ)) (line : Line) (here otherwise : Result Line Why)
+    → (here ≡ Ok line → IsSaid head (key ∷ words) line) → (otherwise ≡ Ok line → IsSaid head (verb ∷ words) line) → cond (bytes_eq verb key) here otherwise ≡ Ok line → IsSaid head (verb ∷ words) line
+by_verb head verb key words line here otherwise is later e =
+    elim (chosen (bytes_eq verb key) here otherwise (Ok line) e) [
+      | inl h ↦
+          let p = is h.1 in
+          (ap (λ (w : List ℕ). w ∷ words) (same_word verb key h.0) ∙ p.0, p.1)
+      | inr h ↦ later h.1
+    ]
+
+-- a line of a file system's number
+module _ (head : Head) (key f : List ℕ) (make : ℕ → Line) (line : Line) where
+  with_fs_found : ((fs : ℕ) → fs < length head.file_systems → IsSaid head (fs_words head key fs) (make fs)) → with_fs head f make ≡ Ok line → IsSaid head (key ∷ f ∷ []) line
+  with_fs_found says e =
+      let x = bind_ok (file_system_number head f) (λ fs. done (make fs)) line e in
+      let at = file_system_found head f x.0 x.1 in
+      let said = says x.0 at.0 in
+      subst (IsSaid head (key ∷ f ∷ [])) (ok_is (make x.0) line x.2) (ap (λ (w : List ℕ). key ∷ w ∷ []) at.1 ∙ said.0, said.1)
+
+fs_line_found : (head : Head) (verb f : List ℕ) (line : Line) → fs_line head verb f ≡ Ok line → IsSaid head (verb ∷ f ∷ []) line
+unfolding fs_line
+fs_line_found head verb f line =
+    by_verb head verb (codes "freeze") (f ∷ []) line _ _ (with_fs_found head (codes "freeze") f Freeze line (λ fs lt. (refl, lt)))
+    (by_verb head verb (codes "abandon") (f ∷ []) line _ _ (with_fs_found head (codes "abandon") f Abandon line (λ fs lt. (refl, lt)))
+    (by_verb head verb (codes "commit") (f ∷ []) line _ _ (with_fs_found head (codes "commit") f Commit line (λ fs lt. (refl, lt)))
+    (by_verb head verb (codes "settle") (f ∷ []) line _ _ (with_fs_found head (codes "settle") f Settle line (λ fs lt. (refl, lt)))
+    (by_verb head verb (codes "show") (f ∷ []) line _ _ (with_fs_found head (codes "show") f Show line (λ fs lt. (refl, lt))) (λ e. absurd cc)))))
+
+-- a line of the numbers of a file system and of a server
+module _ (head : Head) (key f s : List ℕ) (make : ℕ → ℕ → Line) (line : Line) where
+  with_fs_to_found : ((fs to : ℕ) → fs < length head.file_systems → to < length head.servers → IsSaid head (fs_to_words head key fs to) (make fs to)) → with_fs_to head f s make ≡ Ok line
+      → IsSaid head (key ∷ f ∷ s ∷ []) line
+  with_fs_to_found says e =
+      let x = bind_ok (file_system_number head f) (λ fs. server_number head s >>= λ to. done (make fs to)) line e in
+      let y = bind_ok (server_number head s) (λ to. done (make x.0 to)) line x.2 in
+      let at = file_system_found head f x.0 x.1 in
+      let to = server_found head s y.0 y.1 in
+      let said = says x.0 y.0 at.0 to.0 in
+      subst (IsSaid head (key ∷ f ∷ s ∷ [])) (ok_is (make x.0 y.0) line y.2)
+      (ap (λ (w : List ℕ). key ∷ w ∷ s ∷ []) at.1 ∙ ap (λ (w : List ℕ). key ∷ name_at (file_system_names head) x.0 ∷ w ∷ []) to.1 ∙ said.0, said.1)
+
+fs_to_line_found : (head : Head) (verb f s : List ℕ) (line : Line) → fs_to_line head verb f s ≡ Ok line → IsSaid head (verb ∷ f ∷ s ∷ []) line
+unfolding fs_to_line
+fs_to_line_found head verb f s line =
+    by_verb head verb (codes "move") (f ∷ s ∷ []) line _ _ (with_fs_to_found head (codes "move") f s Move line (λ fs to lt less. (refl, (lt, less))))
+    (by_verb head verb (codes "shift") (f ∷ s ∷ []) line _ _ (with_fs_to_found head (codes "shift") f s Shift line (λ fs to lt less. (refl, (lt, less)))) (λ e. absurd cc))
+
+fs_found : (head : Head) (verb : List ℕ) (words : List (List ℕ)) (line : Line) → fs_at head verb words ≡ Ok line → IsSaid head (verb ∷ words) line
+unfolding fs_at
+fs_found head verb [] line e = absurd cc
+fs_found head verb (f ∷ []) line e = fs_line_found head verb f line e
+fs_found head verb (f ∷ s ∷ []) line e = fs_to_line_found head verb f s line e
+fs_found head verb (f ∷ s ∷ more ∷ words) line e = absurd cc
 
 -- a line that is read is spelled so
 pub run_found : (head : Head) (words : List (List ℕ)) (line : Line) → run_line head words ≡ Ok line → (words ≡ run_words head line) × IsRun head line
 unfolding run_line
 run_found head [] line e = absurd cc
-run_found head (first ∷ words) line e =
-    elim (chosen (bytes_eq first (codes "do")) (do_at head words) _ (Ok line) e) [
-      | inl h ↦
-          let p = do_found head words line h.1 in
-          (ap (λ (w : List ℕ). w ∷ words) (same_word first (codes "do") h.0) ∙ p.0, p.1)
-      | inr g ↦ elim (chosen (bytes_eq first (codes "show")) (show_at head words) (Err why.Word) (Ok line) g.1) [
-        | inl h ↦
-            let p = show_found head words line h.1 in
-            (ap (λ (w : List ℕ). w ∷ words) (same_word first (codes "show") h.0) ∙ p.0, p.1)
-        | inr h ↦ absurd cc
-      ]
-    ]
+run_found head (first ∷ words) line e = by_verb head first (codes "do") words line (do_at head words) (fs_at head first words) (do_found head words line) (fs_found head first words line) e
 
 -- and what is spelled so is read
 pub run_again : (head : Head) (line : Line) → HasNames head → IsRun head line → run_line head (run_words head line) ≡ Ok line
-unfolding run_line do_at show_at show_of action_at
+unfolding run_line do_at action_line finish_line fs_at fs_line fs_to_line action_at
 run_again head (Do client (Open a)) names is = rw (open_again head a names is.1, client_again head client names is.0) refl
 run_again head (Do client (Create a)) names is = rw (open_again head a names is.1, client_again head client names is.0) refl
 run_again head (Do client (Close a)) names is = rw (close_again head a names is.1, client_again head client names is.0) refl
+run_again head (Finish client) names is = rw (client_again head client names is) refl
+run_again head (Move fs to) names is = rw (file_system_again head fs names is.0, server_again head to names is.1) refl
+run_again head (Freeze fs) names is = rw (file_system_again head fs names is) refl
+run_again head (Abandon fs) names is = rw (file_system_again head fs names is) refl
+run_again head (Commit fs) names is = rw (file_system_again head fs names is) refl
+run_again head (Settle fs) names is = rw (file_system_again head fs names is) refl
+run_again head (Shift fs to) names is = rw (file_system_again head fs names is.0, server_again head to names is.1) refl
 run_again head (Show fs) names is = rw (file_system_again head fs names is) refl
 
 open_are_words : (head : Head) (a : OpenAction) → HasNames head → IsOpen head a → AllByRecursion IsWord (open_words head a)
@@ -249,6 +323,12 @@ open_are_words head a names is =
 
 pub keyword : (word : List ℕ) → 0 < length word → has_space word ≡ false → IsWord word
 keyword word some whole = record { some = some; whole = whole }
+
+fs_are_words : (head : Head) (verb : List ℕ) (fs : ℕ) → HasNames head → IsWord verb → fs < length head.file_systems → AllByRecursion IsWord (fs_words head verb fs)
+fs_are_words head verb fs names word lt = (word, (file_system_is_word head fs names lt, tt))
+
+fs_to_are_words : (head : Head) (verb : List ℕ) (fs to : ℕ) → HasNames head → IsWord verb → fs < length head.file_systems → to < length head.servers → AllByRecursion IsWord (fs_to_words head verb fs to)
+fs_to_are_words head verb fs to names word lt less = (word, (file_system_is_word head fs names lt, (server_is_word head to names less, tt)))
 
 pub run_are_words : (head : Head) (line : Line) → HasNames head → IsRun head line → AllByRecursion IsWord (run_words head line)
 run_are_words head (Do client (Open a)) names is =
@@ -265,4 +345,11 @@ run_are_words head (Do client (Close a)) names is = (
     ),
   ),
 )
-run_are_words head (Show fs) names is = (keyword (codes "show") (omega arith) refl, (file_system_is_word head fs names is, tt))
+run_are_words head (Finish client) names is = (keyword (codes "do") (omega arith) refl, (client_is_word head client names is, (keyword (codes "finish") (omega arith) refl, tt)))
+run_are_words head (Move fs to) names is = fs_to_are_words head (codes "move") fs to names (keyword (codes "move") (omega arith) refl) is.0 is.1
+run_are_words head (Freeze fs) names is = fs_are_words head (codes "freeze") fs names (keyword (codes "freeze") (omega arith) refl) is
+run_are_words head (Abandon fs) names is = fs_are_words head (codes "abandon") fs names (keyword (codes "abandon") (omega arith) refl) is
+run_are_words head (Commit fs) names is = fs_are_words head (codes "commit") fs names (keyword (codes "commit") (omega arith) refl) is
+run_are_words head (Settle fs) names is = fs_are_words head (codes "settle") fs names (keyword (codes "settle") (omega arith) refl) is
+run_are_words head (Shift fs to) names is = fs_to_are_words head (codes "shift") fs to names (keyword (codes "shift") (omega arith) refl) is.0 is.1
+run_are_words head (Show fs) names is = fs_are_words head (codes "show") fs names (keyword (codes "show") (omega arith) refl) is

@@ -11,20 +11,21 @@ use Rattle.nm_script.specs.declared.script.ClientRow.{ClientRow}
 use Rattle.nm_script.specs.declared.script.FsRow.{FsRow}
 use Rattle.nm_script.specs.declared.script.ServerRow.{ServerRow}
 use Rattle.nm_script.specs.declared.script.Line.{Line}
-use Rattle.nm_script.specs.declared.script.Line.TheVariants.{Do, Show}
+use Rattle.nm_script.specs.declared.script.Line.TheVariants.{Do, Finish, Move, Freeze, Abandon, Commit, Settle, Shift, Show}
 use Rattle.nm_script.specs.declared.script.Script.{Script}
 use Rattle.nm_script.specs.declared.script.ScriptFault.{ScriptFault}
 use Rattle.nm_script.specs.declared.script.ScriptFault.TheVariants as faults
 use Rattle.nm_script.specs.declared.script.Why.{Why}
 use Rattle.nm_script.specs.declared.script.Why.TheVariants as why
 use Rattle.nm_script.specs.declared.draft.Draft.{Draft}
+use Rattle.nm_script.specs.declared.order.Kind.TheVariants as kind
 use Rattle.nm_script.specs.Words.{words_of, says_something, is_printable}
 use Rattle.nm_script.specs.Grammar.{line_of, script_words, run_words, version_words, lease_words, server_words, file_system_words, client_words, name_at, server_names, file_system_names, client_names, all_names, IsName, IsRun, IsWellFormed, IsSourceLine, IsScript}
-use Rattle.nm_script.specs.Reading.{Tells, kind_of, first_kind, is_client_kind, words_at, is_past_clients, line_at, nothing_yet, finished, lines_of, ended, in_line, counted_at, lines_at, or_no_head, whole_at, cut_at, script_at}
+use Rattle.nm_script.specs.Reading.{Tells, kind_of, first_kind, words_at, is_past_last, line_at, nothing_yet, finished, lines_of, ended, in_line, counted_at, lines_at, or_no_head, whole_at, cut_at, script_at}
 use Rattle.nm_script.proofs.WordLaws.{chosen, IsWord, words_of_line, decimal_is_word, name_is_word}
 use Rattle.nm_script.proofs.RunLaws.{bind_ok, ok_is, HasNames, run_are_words, keyword, word_in}
 use Rattle.nm_script.proofs.SourceLaws.{lines_are, lines_only}
-use Rattle.nm_script.proofs.AgainLaws.{take_words, take_all, all_again, other_kind, each_front, each_back, names_are_words, has_names}
+use Rattle.nm_script.proofs.AgainLaws.{take_words, take_all, all_again, run_has_room, each_front, each_back, names_are_words, has_names}
 use Rattle.nm_script.proofs.DraftLaws.{rank, front_full, said, body, IsDraft, Adds, words_found, not_false}
 
 -- ---- what is read is spelled so
@@ -51,7 +52,7 @@ unfolding line_at
 line_found d e line is h =
     elim (chosen (ltb 4096 (length line)) (Err why.Limit) _ (Ok e) h) [
       | inl long ↦ absurd cc
-      | inr a ↦ elim (chosen (is_past_clients d (words_of line)) (Err why.Limit) _ (Ok e) a.1) [
+      | inr a ↦ elim (chosen (is_past_last d (words_of line)) (Err why.Limit) _ (Ok e) a.1) [
         | inl full ↦ absurd cc
         | inr b ↦ elim (chosen (not (is_printable line)) (Err why.Bytes) _ (Ok e) b.1) [
           | inl other ↦ absurd cc
@@ -124,7 +125,8 @@ nothing_is = record {
   no_lines = λ _. refl;
   lease_some = λ lt. absurd (omega arith);
   lease_limit = λ lt. absurd (omega arith);
-  server = λ lt. absurd (omega arith);
+  some_server = λ lt. absurd (omega arith);
+  servers = omega arith;
   file_systems = omega arith;
   clients = omega arith;
   names = All-nil IsName;
@@ -156,7 +158,8 @@ finished_found d s is h =
               head = record {
                 lease_some = is.lease_some (omega arith);
                 lease_limit = is.lease_limit (omega arith);
-                server = is.server (omega arith);
+                some_server = is.some_server (omega arith);
+                servers = is.servers;
                 file_systems = is.file_systems;
                 clients = is.clients;
                 names = is.names;
@@ -246,6 +249,13 @@ each_append P (x ∷ xs) ys h k = (h.0, each_append P xs ys h.1 k)
 
 run_spelled : (head : Head) (line : Line) → HasNames head → IsRun head line → IsSpelled (run_words head line)
 run_spelled head (Do client action) names is = spelled_words _ _ (run_are_words head (Do client action) names is)
+run_spelled head (Finish client) names is = spelled_words _ _ (run_are_words head (Finish client) names is)
+run_spelled head (Move fs to) names is = spelled_words _ _ (run_are_words head (Move fs to) names is)
+run_spelled head (Freeze fs) names is = spelled_words _ _ (run_are_words head (Freeze fs) names is)
+run_spelled head (Abandon fs) names is = spelled_words _ _ (run_are_words head (Abandon fs) names is)
+run_spelled head (Commit fs) names is = spelled_words _ _ (run_are_words head (Commit fs) names is)
+run_spelled head (Settle fs) names is = spelled_words _ _ (run_are_words head (Settle fs) names is)
+run_spelled head (Shift fs to) names is = spelled_words _ _ (run_are_words head (Shift fs to) names is)
 run_spelled head (Show fs) names is = spelled_words _ _ (run_are_words head (Show fs) names is)
 
 -- each line of a script has its words
@@ -301,26 +311,26 @@ line_says : (d : Draft) (line : List ℕ) → IsSourceLine line → says_somethi
 unfolding line_at
 line_says d line source says = rw (le-ltb _ _ source.short, source.printable, says) refl
 
-hash_kind : (parts : List (List ℕ)) → is_client_kind (first_kind (onto_first 35 parts)) ≡ false
+hash_kind : (parts : List (List ℕ)) → first_kind (onto_first 35 parts) ≡ kind.Run
 unfolding kind_of
 hash_kind [] = refl
 hash_kind (part ∷ parts) = refl
 
--- a line that says nothing is no client
-silent_kind : (line : List ℕ) → says_something line ≡ false → is_client_kind (first_kind (words_of line)) ≡ false
+-- a line that says nothing is of no kind of the head
+silent_kind : (line : List ℕ) → says_something line ≡ false → first_kind (words_of line) ≡ kind.Run
 unfolding words_of kind_of
 silent_kind [] quiet = refl
 silent_kind (b ∷ bytes) quiet =
     let hash : 35 ≡ b = sym (eqb-true b 35 (not_false _ quiet)) in
-    let P : ℕ → Type 0 = λ c. is_client_kind (first_kind (words_of (c ∷ bytes))) ≡ false in
+    let P : ℕ → Type 0 = λ c. first_kind (words_of (c ∷ bytes)) ≡ kind.Run in
     subst P hash (hash_kind (slice_split (λ c. eqb c 32) bytes))
 
-silent_few : (d : Draft) (line : List ℕ) → says_something line ≡ false → is_past_clients d (words_of line) ≡ false
-silent_few d line quiet = other_kind d (words_of line) (silent_kind line quiet)
+silent_room : (d : Draft) (line : List ℕ) → says_something line ≡ false → is_past_last d (words_of line) ≡ false
+silent_room d line quiet = run_has_room d (words_of line) (silent_kind line quiet)
 
 line_silent : (d : Draft) (line : List ℕ) → IsSourceLine line → says_something line ≡ false → line_at d line ≡ Ok d
 unfolding line_at
-line_silent d line source quiet = rw (le-ltb _ _ source.short, source.printable, quiet, silent_few d line quiet) refl
+line_silent d line source quiet = rw (le-ltb _ _ source.short, source.printable, quiet, silent_room d line quiet) refl
 
 either_way : (b : Bool) → (b ≡ true) ⊎ (b ≡ false)
 either_way true = inl refl

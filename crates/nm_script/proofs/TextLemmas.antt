@@ -1,6 +1,6 @@
 -- What stands after several texts were written.
 use Rattle.std.proofs.Common.{◌≡◌, ℕ, List, [], ◌++◌, sym, ap, ◌∙◌, append_assoc, append-nil}
-use Rattle.nm_script.specs.Text.{Stands}
+use Rattle.nm_script.specs.Writing.{Stands}
 
 -- where nothing was written
 pub stands_still : (before now : List ℕ) → now ≡ before → Stands before now

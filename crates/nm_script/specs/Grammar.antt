@@ -13,7 +13,7 @@ use Rattle.nm_script.specs.declared.script.FsRow.{FsRow}
 use Rattle.nm_script.specs.declared.script.ClientRow.{ClientRow}
 use Rattle.nm_script.specs.declared.script.Head.{Head}
 use Rattle.nm_script.specs.declared.script.Line.{Line}
-use Rattle.nm_script.specs.declared.script.Line.TheVariants.{Do, Show}
+use Rattle.nm_script.specs.declared.script.Line.TheVariants.{Do, Finish, Move, Freeze, Abandon, Commit, Settle, Shift, Show}
 use Rattle.nm_script.specs.declared.script.Script.{Script}
 use Rattle.nm_script.specs.Words.{says_something, is_printable, is_name_byte}
 
@@ -69,10 +69,25 @@ action_words head (Open a) = codes "open" ∷ open_words head a
 action_words head (Create a) = codes "create" ∷ open_words head a
 action_words head (Close a) = codes "close" ∷ close_words head a
 
--- do C ACTION, show F
+-- VERB F
+abbrev pub fs_words : Head → List ℕ → ℕ → List (List ℕ)
+fs_words head verb fs = verb ∷ name_at (file_system_names head) fs ∷ []
+
+-- VERB F S
+abbrev pub fs_to_words : Head → List ℕ → ℕ → ℕ → List (List ℕ)
+fs_to_words head verb fs to = verb ∷ name_at (file_system_names head) fs ∷ name_at (server_names head) to ∷ []
+
+-- do C ACTION, do C finish, move F S, freeze F, abandon F, commit F, settle F, shift F S, show F
 abbrev pub run_words : Head → Line → List (List ℕ)
 run_words head (Do client action) = codes "do" ∷ name_at (client_names head) client ∷ action_words head action
-run_words head (Show fs) = codes "show" ∷ name_at (file_system_names head) fs ∷ []
+run_words head (Finish client) = codes "do" ∷ name_at (client_names head) client ∷ codes "finish" ∷ []
+run_words head (Move fs to) = fs_to_words head (codes "move") fs to
+run_words head (Freeze fs) = fs_words head (codes "freeze") fs
+run_words head (Abandon fs) = fs_words head (codes "abandon") fs
+run_words head (Commit fs) = fs_words head (codes "commit") fs
+run_words head (Settle fs) = fs_words head (codes "settle") fs
+run_words head (Shift fs to) = fs_to_words head (codes "shift") fs to
+run_words head (Show fs) = fs_words head (codes "show") fs
 
 -- nfsmove 1
 abbrev pub version_words : List (List ℕ)
@@ -131,12 +146,13 @@ all_differ (name ∷ names) = not (list_any (bytes_eq name) names) && all_differ
 abbrev pub all_names : Head → List (List ℕ)
 all_names head = server_names head ++ file_system_names head ++ client_names head
 
--- One server, at most one file system and at most 64 clients, whose names all differ. A lease has 1 to 3,600 seconds.
+-- One to 16 servers, up to 64 file systems and up to 64 clients, whose names all differ. A lease has 1 to 3,600 seconds.
 pub record IsHead (head : Head) : Type 0 where
   pub lease_some : 1 ≤ head.lease
   pub lease_limit : head.lease ≤ 3600
-  pub server : length head.servers ≡ 1
-  pub file_systems : length head.file_systems ≤ 1
+  pub some_server : 1 ≤ length head.servers
+  pub servers : length head.servers ≤ 16
+  pub file_systems : length head.file_systems ≤ 64
   pub clients : length head.clients ≤ 64
   pub names : All IsName (all_names head)
   pub differ : all_differ (all_names head) ≡ true
@@ -163,9 +179,16 @@ IsAction head (Open a) = IsOpen head a
 IsAction head (Create a) = IsOpen head a
 IsAction head (Close a) = IsClose head a
 
--- the client and the file system are of the head
+-- the client, the file system and the server are of the head
 abbrev pub IsRun : Head → Line → Type 0
 IsRun head (Do client action) = (client < length head.clients) × IsAction head action
+IsRun head (Finish client) = client < length head.clients
+IsRun head (Move fs to) = (fs < length head.file_systems) × (to < length head.servers)
+IsRun head (Freeze fs) = fs < length head.file_systems
+IsRun head (Abandon fs) = fs < length head.file_systems
+IsRun head (Commit fs) = fs < length head.file_systems
+IsRun head (Settle fs) = fs < length head.file_systems
+IsRun head (Shift fs to) = (fs < length head.file_systems) × (to < length head.servers)
 IsRun head (Show fs) = fs < length head.file_systems
 
 -- Each number is in its bounds and stands for something, and each name is in its form and given once.

@@ -1,5 +1,9 @@
 pub mod Grammar
+pub mod MoveText
+pub mod OutcomeText
 pub mod Outside
 pub mod Reading
+pub mod TableText
 pub mod Text
 pub mod Words
+pub mod Writing

@@ -8,7 +8,7 @@ use Rattle.nm_rules.specs.declared.action.OpenAction.{OpenAction}
 use Rattle.nm_rules.specs.declared.action.CloseAction.{CloseAction}
 use Rattle.nm_script.specs.declared.script.Head.{Head}
 use Rattle.nm_script.specs.declared.script.Line.{Line}
-use Rattle.nm_script.specs.declared.script.Line.TheVariants.{Do, Show}
+use Rattle.nm_script.specs.declared.script.Line.TheVariants.{Do, Finish, Move, Freeze, Abandon, Commit, Settle, Shift, Show}
 use Rattle.nm_script.specs.declared.script.Script.{Script}
 use Rattle.nm_script.specs.declared.script.ScriptFault.{ScriptFault}
 use Rattle.nm_script.specs.declared.script.ScriptFault.TheVariants as faults
@@ -135,25 +135,57 @@ action_at head verb (f ∷ file ∷ owner ∷ []) =
     if bytes_eq verb (codes "close") then (close_action head f file owner >>= λ a. Ok (Close a)) else Err why.Word
 action_at head verb _ = Err why.Word
 
-unfoldable pub do_at : Head → List (List ℕ) → Result Line Why
-do_at head (c ∷ verb ∷ words) = do
+-- `do C ACTION`
+unfoldable pub action_line : Head → List ℕ → List ℕ → List (List ℕ) → Result Line Why
+action_line head c verb words = do
   action ← action_at head verb words
   client ← client_number head c
   Ok (Do client action)
+
+-- `do C finish`
+unfoldable pub finish_line : Head → List ℕ → List ℕ → Result Line Why
+finish_line head c verb =
+    if bytes_eq verb (codes "finish") then (client_number head c >>= λ client. Ok (Finish client)) else Err why.Word
+
+unfoldable pub do_at : Head → List (List ℕ) → Result Line Why
+do_at head (c ∷ verb ∷ []) = finish_line head c verb
+do_at head (c ∷ verb ∷ words) = action_line head c verb words
 do_at head _ = Err why.Word
 
-unfoldable pub show_of : Head → List ℕ → Result Line Why
-show_of head f = file_system_number head f >>= λ fs. Ok (Show fs)
+-- the line that is made of a file system's number
+abbrev pub with_fs : Head → List ℕ → (ℕ → Line) → Result Line Why
+with_fs head f make = file_system_number head f >>= λ fs. Ok (make fs)
 
-unfoldable pub show_at : Head → List (List ℕ) → Result Line Why
-show_at head (f ∷ []) = show_of head f
-show_at head _ = Err why.Word
+-- the line that is made of the numbers of a file system and of a server
+abbrev pub with_fs_to : Head → List ℕ → List ℕ → (ℕ → ℕ → Line) → Result Line Why
+with_fs_to head f s make = do
+  fs ← file_system_number head f
+  to ← server_number head s
+  Ok (make fs to)
+
+-- `VERB F`
+unfoldable pub fs_line : Head → List ℕ → List ℕ → Result Line Why
+fs_line head verb f =
+    if bytes_eq verb (codes "freeze") then with_fs head f Freeze else
+    if bytes_eq verb (codes "abandon") then with_fs head f Abandon else
+    if bytes_eq verb (codes "commit") then with_fs head f Commit else
+    if bytes_eq verb (codes "settle") then with_fs head f Settle else
+    if bytes_eq verb (codes "show") then with_fs head f Show else Err why.Word
+
+-- `VERB F S`
+unfoldable pub fs_to_line : Head → List ℕ → List ℕ → List ℕ → Result Line Why
+fs_to_line head verb f s =
+    if bytes_eq verb (codes "move") then with_fs_to head f s Move else
+    if bytes_eq verb (codes "shift") then with_fs_to head f s Shift else Err why.Word
+
+unfoldable pub fs_at : Head → List ℕ → List (List ℕ) → Result Line Why
+fs_at head verb (f ∷ []) = fs_line head verb f
+fs_at head verb (f ∷ s ∷ []) = fs_to_line head verb f s
+fs_at head verb _ = Err why.Word
 
 unfoldable pub run_line : Head → List (List ℕ) → Result Line Why
 run_line head [] = Err why.Word
-run_line head (first ∷ words) =
-    if bytes_eq first (codes "do") then do_at head words else
-    if bytes_eq first (codes "show") then show_at head words else Err why.Word
+run_line head (first ∷ words) = if bytes_eq first (codes "do") then do_at head words else fs_at head first words
 
 -- ---- what the lines so far say, with one more line
 
@@ -173,10 +205,8 @@ lease_at d (_ ∷ word ∷ []) = do
       else Err why.Number
 lease_at d _ = Err why.Word
 
--- a second server is refused
 unfoldable pub with_server : Draft → List ℕ → Result Draft Why
 with_server d name =
-    if not (length d.head.servers == 0) then Err why.Word else
     if is_new_name d.head name
     then Ok (record d { last = Some kind.Server; head = record d.head { servers = d.head.servers ++ record { name = name } ∷ [] } })
     else Err why.Name
@@ -185,10 +215,8 @@ unfoldable pub server_at : Draft → List (List ℕ) → Result Draft Why
 server_at d (_ ∷ name ∷ []) = with_server d name
 server_at d _ = Err why.Word
 
--- a second file system is refused
 unfoldable pub with_file_system : Draft → List ℕ → List ℕ → List ℕ → Result Draft Why
 with_file_system d name keyword server =
-    if not (length d.head.file_systems == 0) then Err why.Word else
     if not (bytes_eq keyword (codes "at")) then Err why.Word else
     if not (is_new_name d.head name) then Err why.Name else do
       at ← server_number d.head server
@@ -227,19 +255,21 @@ words_at d words =
     if not (may_follow d.last (first_kind words)) then Err why.Head else
     if has_empty_word words then Err why.Word else kind_at (first_kind words) d words
 
-abbrev pub is_client_kind : Kind → Bool
-is_client_kind kind.Client = true
-is_client_kind _ = false
+-- as many servers, file systems or clients as there may be
+unfoldable pub is_full : Head → Kind → Bool
+is_full head kind.Server = nat_le 16 (length head.servers)
+is_full head kind.FileSystem = nat_le 64 (length head.file_systems)
+is_full head kind.Client = nat_le 64 (length head.clients)
+is_full head _ = false
 
--- a client past the 64th
-unfoldable pub is_past_clients : Draft → List (List ℕ) → Bool
-is_past_clients d words =
-    not (nat_lt (length d.head.clients) 64) && is_client_kind (first_kind words) && may_follow d.last kind.Client
+-- a 17th server, a 65th file system or a 65th client, where it stands in its order
+unfoldable pub is_past_last : Draft → List (List ℕ) → Bool
+is_past_last d words = is_full d.head (first_kind words) && may_follow d.last (first_kind words)
 
 unfoldable pub line_at : Draft → List ℕ → Result Draft Why
 line_at d line =
     if nat_lt 4096 (length line) then Err why.Limit else
-    if is_past_clients d (words_of line) then Err why.Limit else
+    if is_past_last d (words_of line) then Err why.Limit else
     if not (is_printable line) then Err why.Bytes else
     if says_something line then words_at d (words_of line) else Ok d
 

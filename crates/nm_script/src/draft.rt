@@ -15,8 +15,27 @@ use std::alloc::Global;
 /// How many bytes a line may have.
 const LINE_LENGTH_LIMIT: usize = 4096;
 
+/// How many servers a script may have.
+const SERVER_LIMIT: usize = 16;
+
+/// How many file systems a script may have.
+const FILE_SYSTEM_LIMIT: usize = 64;
+
 /// How many clients a script may have.
 const CLIENT_LIMIT: usize = 64;
+
+/// Whether a head has as many lines of that kind as there may be.
+#[tactic(auto, unfolding(crate::specs::Reading::is_full))]
+fn is_full(head: &Head, kind: Kind) -> bool
+    ensures { result ≡ spec.is_full head.now kind }
+{
+    match kind {
+        Kind::Server => head.servers.items().len() >= SERVER_LIMIT,
+        Kind::FileSystem => head.file_systems.items().len() >= FILE_SYSTEM_LIMIT,
+        Kind::Client => head.clients.items().len() >= CLIENT_LIMIT,
+        Kind::Version | Kind::Lease | Kind::Run => false,
+    }
+}
 
 /// What the lines so far say.
 #[derive(Debug, Drop)]
@@ -80,14 +99,11 @@ impl Draft {
         }
     }
 
-    /// `server NAME`, which comes once.
+    /// `server NAME`.
     #[tactic(auto, unfolding(crate::specs::Reading::with_server))]
     fn with_server(mut self, alloc: Global, name: &[u8]) -> Result<Draft, LineFault>
         ensures { Gives result (spec.with_server self name.now) }
     {
-        if !self.head.servers.items().is_empty() {
-            return Err(LineFault::Bad(Why::Word));
-        }
         if !is_new_name(&self.head, name) {
             return Err(LineFault::Bad(Why::Name));
         }
@@ -107,7 +123,7 @@ impl Draft {
         }
     }
 
-    /// `fs NAME at SERVER`, which comes at most once.
+    /// `fs NAME at SERVER`.
     #[tactic(auto, unfolding(crate::specs::Reading::with_file_system))]
     fn with_file_system(
         mut self,
@@ -118,9 +134,6 @@ impl Draft {
     ) -> Result<Draft, LineFault>
         ensures { Gives result (spec.with_file_system self name.now keyword.now server.now) }
     {
-        if !self.head.file_systems.items().is_empty() {
-            return Err(LineFault::Bad(Why::Word));
-        }
         if !is_word(keyword, b"at") {
             return Err(LineFault::Bad(Why::Word));
         }
@@ -174,7 +187,7 @@ impl Draft {
         }
     }
 
-    /// `do C ACTION` or `show F`.
+    /// A line that is run.
     #[tactic(auto, unfolding(crate::specs::Reading::run_at))]
     fn run(mut self, alloc: Global, words: &[&[u8]]) -> Result<Draft, LineFault>
         ensures { Gives result (spec.run_at self (map (λ word. word.now) words.now)) }
@@ -207,16 +220,13 @@ impl Draft {
         }
     }
 
-    /// Whether these words are a client past the last one that is taken.
-    #[tactic(auto, unfolding(crate::specs::Reading::is_past_clients))]
-    fn is_past_clients(&self, words: &[&[u8]]) -> bool
-        ensures { result ≡ spec.is_past_clients self.now (map (λ word. word.now) words.now) }
+    /// Whether these words are a server, a file system or a client past the last one that is taken.
+    #[tactic(auto, unfolding(crate::specs::Reading::is_past_last))]
+    fn is_past_last(&self, words: &[&[u8]]) -> bool
+        ensures { result ≡ spec.is_past_last self.now (map (λ word. word.now) words.now) }
     {
-        if self.head.clients.items().len() < CLIENT_LIMIT {
-            return false;
-        }
-        let is_client = matches!(first_kind(words), Kind::Client);
-        is_client && may_follow(self.last, Kind::Client)
+        let kind = first_kind(words);
+        is_full(&self.head, kind) && may_follow(self.last, kind)
     }
 
     /// Takes one line, without its line feed.
@@ -228,7 +238,7 @@ impl Draft {
             return Err(LineFault::Bad(Why::Limit));
         }
         let words = words_of(alloc, line)?;
-        if self.is_past_clients(&words) {
+        if self.is_past_last(&words) {
             return Err(LineFault::Bad(Why::Limit));
         }
         if !is_printable(line) {
@@ -240,7 +250,7 @@ impl Draft {
         self.take_words(alloc, &words)
     }
 
-    /// The script, where the head is whole: where its server stood.
+    /// The script, where the head is whole: where a server stood.
     pub(crate) fn finish(self) -> Option<Script>
         ensures { result ≡ spec.finished self }
     {

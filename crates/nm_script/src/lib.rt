@@ -4,20 +4,27 @@
 mod draft;
 mod fault;
 mod memory;
+mod move_text;
 mod names;
 mod order;
+mod outcome_text;
 mod outside;
 mod read;
 mod report;
 mod run;
 mod script;
+mod table_text;
 mod text;
 mod words;
+mod writing;
 
 pub use memory::{MemorySink, MemorySource};
 pub use outside::{Failed, ReadAllFault, Sink, Source, read_all, write_all};
 pub use read::read_script;
-pub use report::{HeldReport, OutcomeRow, PhaseNow, Report, ReportRow, Told};
+pub use report::{
+    HeldReport, IdleRow, MoveNames, MoveRow, MoveTold, OutcomeRow, PhaseNow, PhaseReport, Report,
+    ReportRow, Told,
+};
 pub use script::{
     ClientRow, ClientRows, FsRow, FsRows, Head, Line, Lines, Script, ScriptFault, ServerRow,
     ServerRows, Why,

@@ -7,7 +7,7 @@ use crate::words::is_word;
 /// What a line is, by its first word: one of the head, or one that is run. They come in this order:
 ///
 /// ```text
-/// nfsmove -> lease -> server -> fs -> client -> do, show
+/// nfsmove -> lease -> server -> fs -> client -> lines that are run
 /// ```
 ///
 /// The first three come in every script, and each of the others may be missing.

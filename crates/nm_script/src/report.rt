@@ -1,16 +1,24 @@
 //! What came of a line, with texts for names: the rows that it prints.
-use nm_rules::{Bytes, HeldTable, Items, OpStatus, Verb};
+use nm_rules::{Bytes, Cause, HeldTable, Items, MoveNum, OpStatus, Verb};
 
 /// What a client was told of an action.
 #[derive(Clone, Copy, Debug, PartialEq, Eq)]
 pub enum Told {
-    /// The status of the operation that decided.
+    /// The status of the operation that decided: `STATUS`.
     Answered(OpStatus),
-    /// The action needs a stateid that the client hasn't; nothing was sent.
+    /// The status of another operation of the request, which failed: `REFUSED STATUS`.
+    Refused(OpStatus),
+    /// The action needs a stateid that the client hasn't; nothing was sent: `NOSTATE`.
     NoState,
+    /// The client has an action in hand already; nothing was sent: `BUSY`.
+    Busy,
+    /// The file system is on its way; the action stays in hand: `DELAY`.
+    Delayed,
+    /// As many requests were made as one line may make; the action stays in hand: `STOPPED`.
+    Stopped,
 }
 
-/// The outcome of a client's action: the line `C VERB STATUS` or `C VERB NOSTATE`.
+/// The outcome of a client's action: the line `C VERB TOLD`.
 #[derive(Debug, PartialEq, Eq, Drop)]
 pub struct OutcomeRow {
     /// The client's name.
@@ -19,11 +27,42 @@ pub struct OutcomeRow {
     pub told: Told,
 }
 
+/// A client that had nothing in hand to go on with: the line `C idle`.
+#[derive(Debug, PartialEq, Eq, Drop)]
+pub struct IdleRow {
+    /// The client's name.
+    pub client: Bytes,
+}
+
+/// A move, with the names of its servers.
+#[derive(Debug, PartialEq, Eq, Drop)]
+pub struct MoveNames {
+    /// The server that the file system leaves.
+    pub source: Bytes,
+    /// The server that it goes to.
+    pub dest: Bytes,
+    pub number: MoveNum,
+}
+
 /// Who has a file system, with the names of servers.
 #[derive(Debug, PartialEq, Eq, Drop)]
 pub enum PhaseNow {
     /// This server serves it: `F at S`.
     At(Bytes),
+    /// A move has begun, and the source serves what it has in hand: `F closing S D move N`.
+    Closing(MoveNames),
+    /// The source has stopped serving it, and offers it: `F frozen S D move N`.
+    Frozen(MoveNames),
+    /// The source has given it away, and the destination doesn't serve it yet: `F passing S D move N`.
+    Passing(MoveNames),
+}
+
+/// Who has a file system: its phase line.
+#[derive(Debug, PartialEq, Eq, Drop)]
+pub struct PhaseReport {
+    /// The file system's name.
+    pub file_system: Bytes,
+    pub phase: PhaseNow,
 }
 
 /// What is held in a file system: its phase line and the lines of its table.
@@ -35,11 +74,47 @@ pub struct HeldReport {
     pub table: HeldTable,
 }
 
+/// What came of a line that moves a file system, where that isn't a phase line.
+#[derive(Debug, PartialEq, Eq, Drop)]
+pub enum MoveTold {
+    /// No server serves it: `F notserved`.
+    NotServed,
+    /// A move of this number is under way: `F busy N`.
+    Busy(MoveNum),
+    /// The server has it already: `F same`.
+    Same,
+    /// There is no further number for a move: `F last`.
+    Last,
+    /// So many requests in hand are waited for: `F waiting N`.
+    Waiting(u64),
+    /// There is no move to go on with: `F idle`.
+    Idle,
+    /// The move is given up, and this server serves it again: `F back S`.
+    Back(Bytes),
+    /// The move can't be given up any more at this server: `F late S`.
+    Late(Bytes),
+    /// The offer was refused: `F refused CAUSE`.
+    Refused(Cause),
+}
+
+/// What came of a line that moves a file system: the line `F TOLD`.
+#[derive(Debug, PartialEq, Eq, Drop)]
+pub struct MoveRow {
+    /// The file system's name.
+    pub file_system: Bytes,
+    pub told: MoveTold,
+}
+
 /// One row of a report.
 #[derive(Debug, PartialEq, Eq, Drop)]
 pub enum ReportRow {
     Outcome(OutcomeRow),
+    Idle(IdleRow),
     Held(HeldReport),
+    Phase(PhaseReport),
+    Move(MoveRow),
+    /// There is nothing to deliver: the line `no packet`.
+    NoPacket,
 }
 
 /// What one line of a script prints, row by row.

@@ -4,7 +4,7 @@ ghost use Rattle.nm_script.specs.Reading as spec;
 ghost use Rattle.nm_script.specs.Reading.{Gives};
 
 use crate::fault::LineFault;
-use crate::names::{client_number, file_system_number};
+use crate::names::{client_number, file_system_number, server_number};
 use crate::words::{access, deny, is_file_name, is_name, is_word};
 use crate::{Head, Line, Why};
 use nm_rules::{Action, Bytes, CloseAction, OpenAction};
@@ -87,36 +87,95 @@ fn action(alloc: Global, head: &Head, verb: &[u8], words: &[&[u8]]) -> Result<Ac
     }
 }
 
-/// `do C ACTION`, by the words behind `do`.
+/// `do C ACTION`. The action's keywords are judged before the names.
+#[tactic(auto, unfolding(crate::specs::Reading::action_line))]
+fn action_line(
+    alloc: Global,
+    head: &Head,
+    client: &[u8],
+    verb: &[u8],
+    words: &[&[u8]],
+) -> Result<Line, LineFault>
+    ensures { Gives result (spec.action_line head.now client.now verb.now (map (λ word. word.now) words.now)) }
+{
+    let action = action(alloc, head, verb, words)?;
+    let client = client_number(head, client)?;
+    Ok(Line::Do { client, action })
+}
+
+/// `do C finish`.
+#[tactic(auto, unfolding(crate::specs::Reading::finish_line))]
+fn finish_line(head: &Head, client: &[u8], verb: &[u8]) -> Result<Line, Why>
+    ensures { result ≡ spec.finish_line head.now client.now verb.now }
+{
+    if !is_word(verb, b"finish") {
+        return Err(Why::Word);
+    }
+    let client = client_number(head, client)?;
+    Ok(Line::Finish { client })
+}
+
+/// `do C ACTION` or `do C finish`, by the words behind `do`.
 #[tactic(auto, unfolding(crate::specs::Reading::do_at))]
 fn do_line(alloc: Global, head: &Head, words: &[&[u8]]) -> Result<Line, LineFault>
     ensures { Gives result (spec.do_at head.now (map (λ word. word.now) words.now)) }
 {
     match words {
-        [client, verb, rest @ ..] => {
-            let action = action(alloc, head, verb, rest)?;
-            let client = client_number(head, client)?;
-            Ok(Line::Do { client, action })
-        }
+        [client, verb] => Ok(finish_line(head, client, verb)?),
+        [client, verb, rest @ ..] => action_line(alloc, head, client, verb, rest),
         _ => Err(LineFault::Bad(Why::Word)),
     }
 }
 
-/// `show F`.
-#[tactic(auto, unfolding(crate::specs::Reading::show_of))]
-fn show(head: &Head, fs: &[u8]) -> Result<Line, Why>
-    ensures { result ≡ spec.show_of head.now fs.now }
+/// `freeze F`, `abandon F`, `commit F`, `settle F` or `show F`.
+#[tactic(auto, unfolding(crate::specs::Reading::fs_line))]
+fn fs_line(head: &Head, verb: &[u8], fs: &[u8]) -> Result<Line, Why>
+    ensures { result ≡ spec.fs_line head.now verb.now fs.now }
 {
-    Ok(Line::Show(file_system_number(head, fs)?))
+    if is_word(verb, b"freeze") {
+        return Ok(Line::Freeze(file_system_number(head, fs)?));
+    }
+    if is_word(verb, b"abandon") {
+        return Ok(Line::Abandon(file_system_number(head, fs)?));
+    }
+    if is_word(verb, b"commit") {
+        return Ok(Line::Commit(file_system_number(head, fs)?));
+    }
+    if is_word(verb, b"settle") {
+        return Ok(Line::Settle(file_system_number(head, fs)?));
+    }
+    if is_word(verb, b"show") {
+        return Ok(Line::Show(file_system_number(head, fs)?));
+    }
+    Err(Why::Word)
 }
 
-/// `show F`, by the words behind `show`.
-#[tactic(auto, unfolding(crate::specs::Reading::show_at))]
-fn show_line(head: &Head, words: &[&[u8]]) -> Result<Line, Why>
-    ensures { result ≡ spec.show_at head.now (map (λ word. word.now) words.now) }
+/// `move F S` or `shift F S`.
+#[tactic(auto, unfolding(crate::specs::Reading::fs_to_line))]
+fn fs_to_line(head: &Head, verb: &[u8], fs: &[u8], to: &[u8]) -> Result<Line, Why>
+    ensures { result ≡ spec.fs_to_line head.now verb.now fs.now to.now }
+{
+    if is_word(verb, b"move") {
+        let fs = file_system_number(head, fs)?;
+        let to = server_number(head, to)?;
+        return Ok(Line::Move { fs, to });
+    }
+    if is_word(verb, b"shift") {
+        let fs = file_system_number(head, fs)?;
+        let to = server_number(head, to)?;
+        return Ok(Line::Shift { fs, to });
+    }
+    Err(Why::Word)
+}
+
+/// A line on a file system, by its verb and the words behind it.
+#[tactic(auto, unfolding(crate::specs::Reading::fs_at))]
+fn line_on_fs(head: &Head, verb: &[u8], words: &[&[u8]]) -> Result<Line, Why>
+    ensures { result ≡ spec.fs_at head.now verb.now (map (λ word. word.now) words.now) }
 {
     match words {
-        [fs] => show(head, fs),
+        [fs] => fs_line(head, verb, fs),
+        [fs, to] => fs_to_line(head, verb, fs, to),
         _ => Err(Why::Word),
     }
 }
@@ -132,10 +191,7 @@ pub(crate) fn run_line(alloc: Global, head: &Head, words: &[&[u8]]) -> Result<Li
             if is_word(first, b"do") {
                 return do_line(alloc, head, rest);
             }
-            if is_word(first, b"show") {
-                return Ok(show_line(head, rest)?);
-            }
-            Err(LineFault::Bad(Why::Word))
+            Ok(line_on_fs(head, first, rest)?)
         }
     }
 }

@@ -42,6 +42,20 @@ pub struct Head {
 pub enum Line {
     /// `do C ACTION`: the client of that number acts.
     Do { client: u32, action: Action },
+    /// `do C finish`: the client goes on with the action that it has in hand.
+    Finish { client: u32 },
+    /// `move F S`: a move of the file system to that server begins.
+    Move { fs: FsNum, to: ServerNum },
+    /// `freeze F`: the source stops serving the file system, and offers it.
+    Freeze(FsNum),
+    /// `abandon F`: the source gives the move up.
+    Abandon(FsNum),
+    /// `commit F`: the latest offer is delivered, and its answer.
+    Commit(FsNum),
+    /// `settle F`: the latest notice that the source has committed is delivered.
+    Settle(FsNum),
+    /// `shift F S`: move, freeze, commit and settle, as far as each succeeds.
+    Shift { fs: FsNum, to: ServerNum },
     /// `show F`: prints what is held in a file system.
     Show(FsNum),
 }

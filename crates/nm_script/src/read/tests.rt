@@ -16,7 +16,7 @@ fn fault_of(alloc: Global, bytes: &[u8]) -> Option<(u64, Why)> {
 const HEAD: &[u8] = b"nfsmove 1\nlease 90\nserver S1\nfs X at S1\nclient C1 7\n";
 
 /// Lines that are bad behind HEAD, as its line 6.
-const BAD_LINES: [(&[u8], Why); 46] = [
+const BAD_LINES: [(&[u8], Why); 70] = [
     // Bytes.
     (b"show X\r\n", Why::Bytes),
     (b"# \x1f\n", Why::Bytes),
@@ -49,6 +49,19 @@ const BAD_LINES: [(&[u8], Why); 46] = [
     (b"show \n", Why::Word),
     (b"show X \n", Why::Word),
     (b"show ids X\n", Why::Word),
+    (b"do C1 finish x\n", Why::Word),
+    (b"do C9 finished\n", Why::Word),
+    (b"do finish\n", Why::Word),
+    (b"freeze\n", Why::Word),
+    (b"freeze X S1\n", Why::Word),
+    (b"abandon X 1\n", Why::Word),
+    (b"commit \n", Why::Word),
+    (b"settle\n", Why::Word),
+    (b"move Y\n", Why::Word),
+    (b"move X S1 S2\n", Why::Word),
+    (b"shift X\n", Why::Word),
+    (b"shift X S1 S1\n", Why::Word),
+    (b"thaw X\n", Why::Word),
     (b" show X\n", Why::Word),
     (b" \n", Why::Word),
     (b"Show X\n", Why::Word),
@@ -58,6 +71,17 @@ const BAD_LINES: [(&[u8], Why); 46] = [
     (b"show Y\n", Why::Name),
     (b"show S1\n", Why::Name),
     (b"do C2 close X f o\n", Why::Name),
+    (b"do C2 finish\n", Why::Name),
+    (b"do X finish\n", Why::Name),
+    (b"move X S2\n", Why::Name),
+    (b"move Y S1\n", Why::Name),
+    (b"move S1 X\n", Why::Name),
+    (b"shift X C1\n", Why::Name),
+    (b"shift C1 S1\n", Why::Name),
+    (b"freeze S1\n", Why::Name),
+    (b"abandon C1\n", Why::Name),
+    (b"commit Y\n", Why::Name),
+    (b"settle x\n", Why::Name),
     (b"do C1 close Y f o\n", Why::Name),
     (b"do C1 close X . o\n", Why::Name),
     (b"do C1 open X .. r none o\n", Why::Name),
@@ -85,7 +109,7 @@ fn bad_lines(rt: HostRuntime) -> Result<(), Fail> {
 }
 
 /// Sources with a bad head, each with its first bad line.
-const BAD_HEADS: [(&[u8], u64, Why); 35] = [
+const BAD_HEADS: [(&[u8], u64, Why); 39] = [
     // Nothing at all, and heads that end too early.
     (b"", 1, Why::Head),
     (b"\n", 2, Why::Head),
@@ -127,18 +151,34 @@ const BAD_HEADS: [(&[u8], u64, Why); 35] = [
     (b"nfsmove 1\nlease\n", 2, Why::Word),
     (b"nfsmove 1\nlease  90\n", 2, Why::Word),
     (b"nfsmove 1\nlease 90\nserver S1 tag 1\n", 3, Why::Word),
-    (b"nfsmove 1\nlease 90\nserver S1\nserver S1\n", 4, Why::Word),
+    (b"nfsmove 1\nlease 90\nserver S1\nserver\n", 4, Why::Word),
+    (
+        b"nfsmove 1\nlease 90\nserver S1\nserver S1 S2\n",
+        4,
+        Why::Word,
+    ),
     (
         b"nfsmove 1\nlease 90\nserver S1\nfs X in S2\n",
         4,
         Why::Word,
     ),
     (
-        b"nfsmove 1\nlease 90\nserver S1\nfs X at S1\nfs X at S1\n",
+        b"nfsmove 1\nlease 90\nserver S1\nfs X at S1\nfs X at\n",
         5,
         Why::Word,
     ),
     // Names, before numbers.
+    (b"nfsmove 1\nlease 90\nserver S1\nserver S1\n", 4, Why::Name),
+    (
+        b"nfsmove 1\nlease 90\nserver S1\nfs X at S1\nfs X at S1\n",
+        5,
+        Why::Name,
+    ),
+    (
+        b"nfsmove 1\nlease 90\nserver S1\nserver S2\nfs X at S3\n",
+        5,
+        Why::Name,
+    ),
     (b"nfsmove 1\nlease 90\nserver S.1\n", 3, Why::Name),
     (
         b"nfsmove 1\nlease 90\nserver S1\nfs S1 at S1\n",
@@ -271,6 +311,62 @@ fn whole_script(rt: HostRuntime) -> Result<(), Fail> {
     Ok(())
 }
 
+/// Two servers, two file systems, and each line that moves one.
+const MOVES: &[u8] = b"nfsmove 1\n\
+lease 90\n\
+server S1\n\
+server s-2\n\
+fs home at s-2\n\
+fs X at S1\n\
+client C1 7\n\
+move X s-2\n\
+freeze X\n\
+do C1 finish\n\
+commit X\n\
+settle X\n\
+abandon home\n\
+shift home S1\n\
+show X\n";
+
+/// The head of MOVES.
+fn head_of_moves(alloc: Global) -> Result<Script, Fail> {
+    let mut script = smallest(alloc, 90, b"S1")?;
+    script.head.servers.push(ServerRow {
+        name: text(alloc, b"s-2")?,
+    })?;
+    for (name, at) in [(b"home".as_slice(), 1), (b"X", 0)] {
+        script.head.file_systems.push(FsRow {
+            name: text(alloc, name)?,
+            at: ServerNum::new(at).ok_or("no such server")?,
+        })?;
+    }
+    script.head.clients.push(ClientRow {
+        name: text(alloc, b"C1")?,
+        verifier: 7,
+    })?;
+    Ok(script)
+}
+
+#[test]
+fn lines_that_move_a_file_system(rt: HostRuntime) -> Result<(), Fail> {
+    let alloc = rt.alloc();
+    let mut script = head_of_moves(alloc)?;
+    let home = FsNum::new(0).ok_or("0 is a file system")?;
+    let x = FsNum::new(1).ok_or("1 is a file system")?;
+    let s1 = ServerNum::new(0).ok_or("0 is a server")?;
+    let s2 = ServerNum::new(1).ok_or("1 is a server")?;
+    script.lines.push(Line::Move { fs: x, to: s2 })?;
+    script.lines.push(Line::Freeze(x))?;
+    script.lines.push(Line::Finish { client: 0 })?;
+    script.lines.push(Line::Commit(x))?;
+    script.lines.push(Line::Settle(x))?;
+    script.lines.push(Line::Abandon(home))?;
+    script.lines.push(Line::Shift { fs: home, to: s1 })?;
+    script.lines.push(Line::Show(x))?;
+    assert_eq!(rt; read_script(alloc, MOVES), Ok(script));
+    Ok(())
+}
+
 /// HEAD and that text again and again.
 fn repeated(alloc: Global, line: &[u8], times: usize) -> Result<Vec<u8>, AllocError> {
     let mut source = Vec::from_slice(alloc, HEAD)?;
@@ -324,16 +420,106 @@ fn at_most_16_mib(rt: HostRuntime) -> Result<(), Fail> {
     Ok(())
 }
 
-/// A head with that many clients, `c100` and on.
-fn clients(alloc: Global, count: u8) -> Result<Vec<u8>, AllocError> {
-    let mut source = Vec::from_slice(alloc, b"nfsmove 1\nlease 90\nserver S1\n")?;
+/// The beginning of a line of a head, and its end behind the name.
+struct Around {
+    keyword: &'static [u8],
+    end: &'static [u8],
+}
+
+const SERVER: Around = Around {
+    keyword: b"server ",
+    end: b"\n",
+};
+
+const FILE_SYSTEM: Around = Around {
+    keyword: b"fs ",
+    end: b" at S1\n",
+};
+
+const CLIENT: Around = Around {
+    keyword: b"client ",
+    end: b" 1\n",
+};
+
+/// A head that begins so and goes on with that many lines of a kind, for the names `c000` and on.
+fn rows(alloc: Global, front: &[u8], around: &Around, count: u8) -> Result<Vec<u8>, AllocError> {
+    let mut source = Vec::from_slice(alloc, front)?;
     for n in 0..count {
         let name = [b'c', b'0' + n / 100, b'0' + n / 10 % 10, b'0' + n % 10];
-        source.extend_from_slice(b"client ")?;
+        source.extend_from_slice(around.keyword)?;
         source.extend_from_slice(&name)?;
-        source.extend_from_slice(b" 1\n")?;
+        source.extend_from_slice(around.end)?;
     }
     Ok(source)
+}
+
+/// A head with that many servers.
+fn servers(alloc: Global, count: u8) -> Result<Vec<u8>, AllocError> {
+    rows(alloc, b"nfsmove 1\nlease 90\n", &SERVER, count)
+}
+
+/// A head with one server and that many file systems.
+fn file_systems(alloc: Global, count: u8) -> Result<Vec<u8>, AllocError> {
+    let front = b"nfsmove 1\nlease 90\nserver S1\n";
+    rows(alloc, front, &FILE_SYSTEM, count)
+}
+
+/// A head with one server and that many clients.
+fn clients(alloc: Global, count: u8) -> Result<Vec<u8>, AllocError> {
+    let front = b"nfsmove 1\nlease 90\nserver S1\n";
+    rows(alloc, front, &CLIENT, count)
+}
+
+#[test]
+fn at_most_16_servers(rt: HostRuntime) -> Result<(), Fail> {
+    let source = servers(rt.alloc(), 16)?;
+    let script = read_script(rt.alloc(), &source)?;
+    assert_eq!(rt; script.head.servers.items().len(), 16);
+    let source = servers(rt.alloc(), 17)?;
+    assert_eq!(rt; fault_of(rt.alloc(), &source), Some((19, Why::Limit)));
+    // The limit comes before any other fault of its line, but out of order the line is of the head.
+    for (text, line, why) in [
+        (b"server".as_slice(), 19, Why::Limit),
+        (b"server c000", 19, Why::Limit),
+        (b"server \x01 x", 19, Why::Limit),
+        (b"lease 90", 19, Why::Head),
+        (b"fs X at c016", 19, Why::Name),
+        (b"fs X at c015\nserver S2", 20, Why::Head),
+    ] {
+        let mut source = servers(rt.alloc(), 16)?;
+        source.extend_from_slice(text)?;
+        assert_eq!(rt;
+            fault_of(rt.alloc(), &source),
+            Some((line, why)),
+            "at {text:?}"
+        );
+    }
+    Ok(())
+}
+
+#[test]
+fn at_most_64_file_systems(rt: HostRuntime) -> Result<(), Fail> {
+    let source = file_systems(rt.alloc(), 64)?;
+    let script = read_script(rt.alloc(), &source)?;
+    assert_eq!(rt; script.head.file_systems.items().len(), 64);
+    let source = file_systems(rt.alloc(), 65)?;
+    assert_eq!(rt; fault_of(rt.alloc(), &source), Some((68, Why::Limit)));
+    for (text, line, why) in [
+        (b"fs".as_slice(), 68, Why::Limit),
+        (b"fs c000 in \x01", 68, Why::Limit),
+        (b"server S2", 68, Why::Head),
+        (b"show c064", 68, Why::Name),
+        (b"client C1 1\nfs X at S1", 69, Why::Head),
+    ] {
+        let mut source = file_systems(rt.alloc(), 64)?;
+        source.extend_from_slice(text)?;
+        assert_eq!(rt;
+            fault_of(rt.alloc(), &source),
+            Some((line, why)),
+            "at {text:?}"
+        );
+    }
+    Ok(())
 }
 
 #[test]

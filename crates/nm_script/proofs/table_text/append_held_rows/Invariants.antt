@@ -1,6 +1,6 @@
 use Rattle.std.proofs.Common.{◌≡◌, ◌++◌, flat_map, take}
-use Rattle.nm_script.specs.Text.{held_row_text}
-use Rattle.nm_script.proofs.text.append_held_rows.Given as goal
+use Rattle.nm_script.specs.TableText.{held_row_text}
+use Rattle.nm_script.proofs.table_text.append_held_rows.Given as goal
 
 -- the rows so far are written
 abbrev pub invariant-loop-row : goal.invariant-loop-row

@@ -1,0 +1,182 @@
+//! The printed text of what clients were told.
+ghost use Rattle.std.specs.Prelude.{◌≡◌, ◌++◌, OnOk, OnErr};
+ghost use Rattle.nm_script.specs.OutcomeText.{status_text, verb_text, told_text, outcome_text, idle_text};
+ghost use Rattle.nm_script.specs.Writing.{Stands};
+
+use crate::writing::append;
+use crate::{IdleRow, OutcomeRow, Told};
+use nm_rules::{Memory, OpStatus, Verb};
+
+// The printed word of a status.
+#[tactic(auto, unfolding(crate::specs::OutcomeText::status_text))]
+fn status_word(status: OpStatus) -> &'static [u8]
+    ensures { result.now ≡ status_text status }
+{
+    match status {
+        OpStatus::Nfs4Ok => b"OK",
+        OpStatus::NoEnt => b"NOENT",
+        OpStatus::Exist => b"EXIST",
+        OpStatus::NotDir => b"NOTDIR",
+        OpStatus::IsDir => b"ISDIR",
+        OpStatus::Inval => b"INVAL",
+        OpStatus::FBig => b"FBIG",
+        OpStatus::NoSpc => b"NOSPC",
+        OpStatus::NameTooLong => b"NAMETOOLONG",
+        OpStatus::NotEmpty => b"NOTEMPTY",
+        OpStatus::Stale => b"STALE",
+        OpStatus::BadHandle => b"BADHANDLE",
+        OpStatus::NotSupp => b"NOTSUPP",
+        OpStatus::TooSmall => b"TOOSMALL",
+        OpStatus::ServerFault => b"SERVERFAULT",
+        OpStatus::BadType => b"BADTYPE",
+        OpStatus::Delay => b"DELAY",
+        OpStatus::Denied => b"DENIED",
+        OpStatus::Expired => b"EXPIRED",
+        OpStatus::Locked => b"LOCKED",
+        OpStatus::Grace => b"GRACE",
+        OpStatus::ShareDenied => b"SHARE_DENIED",
+        OpStatus::ClidInUse => b"CLID_INUSE",
+        OpStatus::Resource => b"RESOURCE",
+        OpStatus::Moved => b"MOVED",
+        OpStatus::NoFileHandle => b"NOFILEHANDLE",
+        OpStatus::MinorVersMismatch => b"MINOR_VERS_MISMATCH",
+        OpStatus::StaleClientId => b"STALE_CLIENTID",
+        OpStatus::StaleStateId => b"STALE_STATEID",
+        OpStatus::OldStateId => b"OLD_STATEID",
+        OpStatus::BadStateId => b"BAD_STATEID",
+        OpStatus::BadSeqid => b"BAD_SEQID",
+        OpStatus::NotSame => b"NOT_SAME",
+        OpStatus::RestoreFh => b"RESTOREFH",
+        OpStatus::LeaseMoved => b"LEASE_MOVED",
+        OpStatus::AttrNotSupp => b"ATTRNOTSUPP",
+        OpStatus::NoGrace => b"NO_GRACE",
+        OpStatus::BadXdr => b"BADXDR",
+        OpStatus::LocksHeld => b"LOCKS_HELD",
+        OpStatus::OpenMode => b"OPENMODE",
+        OpStatus::BadName => b"BADNAME",
+        OpStatus::OpIllegal => b"OP_ILLEGAL",
+        OpStatus::FileOpen => b"FILE_OPEN",
+    }
+}
+
+// The printed word of an action.
+#[tactic(auto, unfolding(crate::specs::OutcomeText::verb_text))]
+fn verb_word(verb: Verb) -> &'static [u8]
+    ensures { result.now ≡ verb_text verb }
+{
+    match verb {
+        Verb::Open => b"open",
+        Verb::Create => b"create",
+        Verb::Close => b"close",
+    }
+}
+
+#[tactic(auto, using(crate::proofs::TextLemmas::stands_more), unfolding(crate::specs::OutcomeText::told_text))]
+fn append_told(out: &mut Vec<u8>, told: Told) -> Result<(), Memory>
+    ensures ok { OnOk result (out.new.items ≡ out.old.items ++ told_text told) }
+    ensures err { OnErr result (Stands out.old.items out.new.items) }
+{
+    match told {
+        Told::Answered(status) => append(out, status_word(status)),
+        Told::Refused(status) => {
+            append(out, b"REFUSED ")?;
+            append(out, status_word(status))
+        }
+        Told::NoState => append(out, b"NOSTATE"),
+        Told::Busy => append(out, b"BUSY"),
+        Told::Delayed => append(out, b"DELAY"),
+        Told::Stopped => append(out, b"STOPPED"),
+    }
+}
+
+/// `C VERB TOLD`.
+#[tactic(auto, using(crate::proofs::TextLemmas::stands_more), unfolding(crate::specs::OutcomeText::outcome_text))]
+pub(crate) fn append_outcome(out: &mut Vec<u8>, row: &OutcomeRow) -> Result<(), Memory>
+    ensures ok { OnOk result (out.new.items ≡ out.old.items ++ outcome_text row.now) }
+    ensures err { OnErr result (Stands out.old.items out.new.items) }
+{
+    append(out, row.client.items())?;
+    append(out, b" ")?;
+    append(out, verb_word(row.verb))?;
+    append(out, b" ")?;
+    append_told(out, row.told)?;
+    append(out, b"\n")
+}
+
+/// `C idle`.
+#[tactic(auto, using(crate::proofs::TextLemmas::stands_more), unfolding(crate::specs::OutcomeText::idle_text))]
+pub(crate) fn append_idle(out: &mut Vec<u8>, row: &IdleRow) -> Result<(), Memory>
+    ensures ok { OnOk result (out.new.items ≡ out.old.items ++ idle_text row.now) }
+    ensures err { OnErr result (Stands out.old.items out.new.items) }
+{
+    append(out, row.client.items())?;
+    append(out, b" idle")?;
+    append(out, b"\n")
+}
+
+#[cfg(test)]
+mod tests {
+    use super::*;
+    use std::test::Fail;
+
+    #[test]
+    fn each_status_is_printed_by_its_name(rt: HostRuntime) -> Result<(), Fail> {
+        let table = [
+            (0, "OK"),
+            (2, "NOENT"),
+            (17, "EXIST"),
+            (20, "NOTDIR"),
+            (21, "ISDIR"),
+            (22, "INVAL"),
+            (27, "FBIG"),
+            (28, "NOSPC"),
+            (63, "NAMETOOLONG"),
+            (66, "NOTEMPTY"),
+            (70, "STALE"),
+            (10001, "BADHANDLE"),
+            (10004, "NOTSUPP"),
+            (10005, "TOOSMALL"),
+            (10006, "SERVERFAULT"),
+            (10007, "BADTYPE"),
+            (10008, "DELAY"),
+            (10010, "DENIED"),
+            (10011, "EXPIRED"),
+            (10012, "LOCKED"),
+            (10013, "GRACE"),
+            (10015, "SHARE_DENIED"),
+            (10017, "CLID_INUSE"),
+            (10018, "RESOURCE"),
+            (10019, "MOVED"),
+            (10020, "NOFILEHANDLE"),
+            (10021, "MINOR_VERS_MISMATCH"),
+            (10022, "STALE_CLIENTID"),
+            (10023, "STALE_STATEID"),
+            (10024, "OLD_STATEID"),
+            (10025, "BAD_STATEID"),
+            (10026, "BAD_SEQID"),
+            (10027, "NOT_SAME"),
+            (10030, "RESTOREFH"),
+            (10031, "LEASE_MOVED"),
+            (10032, "ATTRNOTSUPP"),
+            (10033, "NO_GRACE"),
+            (10036, "BADXDR"),
+            (10037, "LOCKS_HELD"),
+            (10038, "OPENMODE"),
+            (10041, "BADNAME"),
+            (10044, "OP_ILLEGAL"),
+            (10046, "FILE_OPEN"),
+        ];
+        for (number, word) in table {
+            let status = OpStatus::read(number).ok_or("no such status")?;
+            assert_eq!(rt; status_word(status), word.as_bytes());
+        }
+        Ok(())
+    }
+
+    #[test]
+    fn each_verb_is_printed_by_its_word(rt: HostRuntime) {
+        assert_eq!(rt; verb_word(Verb::Open), "open".as_bytes());
+        assert_eq!(rt; verb_word(Verb::Create), "create".as_bytes());
+        assert_eq!(rt; verb_word(Verb::Close), "close".as_bytes());
+    }
+}
