@@ -1,3 +1,4 @@
+pub mod Known
 pub mod Replay
 pub mod ShortRun
 pub mod Tables
