@@ -52,7 +52,7 @@ module _ (d : Draft) (words : List (List ℕ)) (k : Kind) (is : first_kind words
 
   taken : is_full d.head k ≡ false → take_words d words ≡ kind_at k d words
   unfolding is_past_last
-  taken room = rw (is, room) (rw is in_order)
+  taken room = rw (is, room) in_order
 
 -- a line that is run is never past the last one
 pub run_has_room : (d : Draft) (words : List (List ℕ)) → first_kind words ≡ kind.Run → is_past_last d words ≡ false
@@ -314,8 +314,11 @@ module _ (lease : ℕ) (server : ServerRow) (more : List ServerRow) (places : Li
 parts_again : (lease : ℕ) (servers : List ServerRow) (places : List FsRow) (clients : List ClientRow) (lines : List Line) → let s = with_parts lease servers places clients lines in
     IsWellFormed s → (e : Draft) × (take_all nothing_yet (script_words s) ≡ Ok e) × (finished e ≡ Some s)
 parts_again lease [] places clients lines is = absurd (omega (arith, is.head.some_server))
-parts_again lease (server ∷ more) places clients lines is =
-    (so_far (last lease server more places clients lines is) lease (server ∷ more) places clients lines, all_are lease server more places clients lines is, refl)
+parts_again lease (server ∷ more) places clients lines is = (
+  so_far (last lease server more places clients lines is) lease (server ∷ more) places clients lines,
+  all_are lease server more places clients lines is,
+  rw (ne_eqb (length (server ∷ more)) 0 (λ e. omega (arith, e))) refl,
+)
 
 pub all_again : (s : Script) → IsWellFormed s → (e : Draft) × (take_all nothing_yet (script_words s) ≡ Ok e) × (finished e ≡ Some s)
 all_again s is = parts_again s.head.lease s.head.servers s.head.file_systems s.head.clients s.lines is

@@ -298,12 +298,22 @@ body_joined d row l =
 body_ran : (d : Draft) (line : Line) → body (ran d line) ≡ body d ++ run_words d.head line ∷ []
 body_ran d line = push_there (run_words d.head) (to_clients d) d.lines line
 
+-- lines behind the same ones, and before none
+pushed : {X Y : Type 0} (f : X → Y) (pre : List Y) (xs : List X) (x : X) → (pre ++ map f (xs ++ x ∷ [])) ++ [] ≡ ((pre ++ map f xs) ++ []) ++ f x ∷ []
+pushed f pre xs x =
+    append-nil (pre ++ map f (xs ++ x ∷ [])) ∙ push_there f pre xs x ∙ ap (λ ys. ys ++ f x ∷ []) (sym (append-nil (pre ++ map f xs)))
+
+pushed_first : {X Y : Type 0} (f : X → Y) (xs : List X) (x : X) → (map f (xs ++ x ∷ []) ++ []) ++ [] ≡ ((map f xs ++ []) ++ []) ++ f x ∷ []
+pushed_first f xs x =
+    append-nil (map f (xs ++ x ∷ []) ++ []) ∙ append-nil (map f (xs ++ x ∷ [])) ∙ push_there f [] xs x
+    ∙ ap (λ ys. ys ++ f x ∷ []) (sym (append-nil (map f xs ++ []) ∙ append-nil (map f xs)))
+
 -- one name more
 pub served_names : (d : Draft) (row : ServerRow) → d.head.file_systems ≡ [] → d.head.clients ≡ [] → all_names (served d row).head ≡ all_names d.head ++ row.name ∷ []
-served_names d row f c = rw (f, c, append-nil (server_names d.head)) (push_there (λ (server : ServerRow). server.name) [] d.head.servers row)
+served_names d row f c = rw (f, c) (pushed_first (λ (server : ServerRow). server.name) d.head.servers row)
 
 pub placed_names : (d : Draft) (row : FsRow) → d.head.clients ≡ [] → all_names (placed d row).head ≡ all_names d.head ++ row.name ∷ []
-placed_names d row c = rw (c, append-nil (server_names d.head ++ file_system_names d.head)) (push_there (λ (place : FsRow). place.name) (server_names d.head) d.head.file_systems row)
+placed_names d row c = rw c (pushed (λ (place : FsRow). place.name) (server_names d.head) d.head.file_systems row)
 
 add_version : (d : Draft) → IsDraft d → rank d.last ≡ 0 → Adds d version_words (versioned d)
 add_version d is low =

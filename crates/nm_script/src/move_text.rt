@@ -21,7 +21,11 @@ fn append_names(out: &mut Vec<u8>, names: &MoveNames) -> Result<(), Memory>
 
 /// `F at S`, `F closing S D move N`, `F frozen S D move N` or `F passing S D move N`.
 #[tactic(auto, using(crate::proofs::TextLemmas::stands_more), unfolding(crate::specs::MoveText::phase_text))]
-pub(crate) fn append_phase(out: &mut Vec<u8>, file_system: &[u8], phase: &PhaseNow) -> Result<(), Memory>
+pub(crate) fn append_phase(
+    out: &mut Vec<u8>,
+    file_system: &[u8],
+    phase: &PhaseNow,
+) -> Result<(), Memory>
     ensures ok { OnOk result (out.new.items ≡ out.old.items ++ phase_text file_system.now phase.now) }
     ensures err { OnErr result (Stands out.old.items out.new.items) }
 {

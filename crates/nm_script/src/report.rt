@@ -49,9 +49,9 @@ pub struct MoveNames {
 pub enum PhaseNow {
     /// This server serves it: `F at S`.
     At(Bytes),
-    /// A move has begun, and the source serves what it has in hand: `F closing S D move N`.
+    /// A move has begun: the source serves the requests that it has in hand, and no others: `F closing S D move N`.
     Closing(MoveNames),
-    /// The source has stopped serving it, and offers it: `F frozen S D move N`.
+    /// The source has none in hand any more, and offers the file system: `F frozen S D move N`.
     Frozen(MoveNames),
     /// The source has given it away, and the destination doesn't serve it yet: `F passing S D move N`.
     Passing(MoveNames),
@@ -77,23 +77,23 @@ pub struct HeldReport {
 /// What came of a line that moves a file system, where that isn't a phase line.
 #[derive(Debug, PartialEq, Eq, Drop)]
 pub enum MoveTold {
-    /// No server serves it: `F notserved`.
+    /// The source has given it away already: `F notserved`.
     NotServed,
-    /// A move of this number is under way: `F busy N`.
+    /// The move of this number is under way: `F busy N`.
     Busy(MoveNum),
-    /// The server has it already: `F same`.
+    /// The server that it is to go to has it: `F same`.
     Same,
-    /// There is no further number for a move: `F last`.
+    /// There is no further number for a move of it: `F last`.
     Last,
-    /// So many requests in hand are waited for: `F waiting N`.
+    /// The source still has so many requests in hand: `F waiting N`.
     Waiting(u64),
-    /// There is no move to go on with: `F idle`.
+    /// There is no move to freeze or to give up: `F idle`.
     Idle,
     /// The move is given up, and this server serves it again: `F back S`.
     Back(Bytes),
-    /// The move can't be given up any more at this server: `F late S`.
+    /// This server, the source, has given it away already: `F late S`.
     Late(Bytes),
-    /// The offer was refused: `F refused CAUSE`.
+    /// The destination refused the offer: `F refused CAUSE`.
     Refused(Cause),
 }
 

@@ -112,7 +112,10 @@ fn what_a_client_was_told(rt: HostRuntime) -> Result<(), Fail> {
         append_line_text(&mut out, &outcome(alloc, "C1", Verb::Create, told)?)?;
     }
     let client = name(alloc, "C1")?;
-    append_line_text(&mut out, &report(alloc, ReportRow::Idle(IdleRow { client }))?)?;
+    append_line_text(
+        &mut out,
+        &report(alloc, ReportRow::Idle(IdleRow { client }))?,
+    )?;
     let wanted = "C1 create OK\nC1 create DELAY\nC1 create REFUSED STALE\nC1 create NOSTATE\n\
         C1 create BUSY\nC1 create DELAY\nC1 create STOPPED\nC1 idle\n";
     assert_eq!(rt; out.as_slice(), wanted.as_bytes());
@@ -186,7 +189,8 @@ fn what_came_of_a_move(rt: HostRuntime) -> Result<(), Fail> {
         let row = ReportRow::Move(MoveRow { file_system, told });
         append_line_text(&mut out, &report(alloc, row)?)?;
     }
-    let wanted = "X notserved\nX busy 1\nX same\nX last\nX waiting 2\nX idle\nX back S1\nX late S2\n\
+    let wanted =
+        "X notserved\nX busy 1\nX same\nX last\nX waiting 2\nX idle\nX back S1\nX late S2\n\
         X refused BADIMAGE 128\nX refused OLD 1\nX refused LIVE\nX refused DIFFERS 7 8\nX refused FULL\n\
         X refused ABSENT\n";
     assert_eq!(rt; out.as_slice(), wanted.as_bytes());
