@@ -1,4 +1,1 @@
-pub mod Known
 pub mod Replay
-pub mod ShortRun
-pub mod Tables

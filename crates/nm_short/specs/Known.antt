@@ -19,10 +19,10 @@ use Rattle.nm_rules.specs.declared.calls.ReplyValue.{ReplyValue}
 use Rattle.nm_rules.specs.declared.calls.ReplyValue.TheVariants.{Nothing, Open as OpenReply, Close as CloseReply}
 use Rattle.nm_rules.specs.declared.status.OpStatus.{OpStatus}
 use Rattle.nm_script.specs.declared.script.ClientRow.{ClientRow}
-use Rattle.nm_cmd.specs.declared.clients.Believed.{Believed}
-use Rattle.nm_cmd.specs.declared.clients.HeldOpen.{HeldOpen}
-use Rattle.nm_cmd.specs.declared.clients.InHand.{InHand}
-use Rattle.nm_cmd.specs.declared.clients.OwnerSeqid.{OwnerSeqid}
+use Rattle.nm_short.specs.declared.clients.Believed.{Believed}
+use Rattle.nm_short.specs.declared.clients.HeldOpen.{HeldOpen}
+use Rattle.nm_short.specs.declared.clients.InHand.{InHand}
+use Rattle.nm_short.specs.declared.clients.OwnerSeqid.{OwnerSeqid}
 
 -- ---- what clients know
 

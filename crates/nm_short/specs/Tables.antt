@@ -1,5 +1,5 @@
 -- The same run over what the servers have: what the code keeps in the place of the list of steps.
-use Rattle.std.specs.Prelude.{ℕ, zero, suc, ◌+◌, ◌≤◌, All, length, Bool, true, false, List, [], ◌∷◌, ◌++◌, Option, Some, None, map, option_map, option_or, unwrap_or, replicate, slice_get, slice_set, if◌then◌else◌}
+use Rattle.std.specs.Prelude.{ℕ, zero, suc, ◌+◌, ◌≤◌, All, length, Bool, true, false, List, [], ◌∷◌, ◌++◌, Option, Some, None, map, option_map, unwrap_or, replicate, slice_get, slice_set, if◌then◌else◌}
 use Rattle.nm_rules.specs.Actions.{fs_of}
 use Rattle.nm_rules.specs.Held.{held_table}
 use Rattle.nm_rules.specs.Seen.{Seen, empty}
@@ -43,9 +43,9 @@ use Rattle.nm_slot.specs.SlotNow.Doing.{Serves}
 use Rattle.nm_slot.specs.SlotNow.HandedOver.{Committed, Again, Dead}
 use Rattle.nm_slot.specs.SlotNow.SlotStep.{Entering, Leaving, Applying, Beginning, Freezing, Imaging, Committing, Abandoning, Accepting, Installing}
 use Rattle.nm_slot.specs.SlotNow.Stage.{Away, Here}
-use Rattle.nm_cmd.specs.Known.{Known, knows_nothing, learned, call_of, place_of, sent_to, hand_of, put_down, taken_up}
-use Rattle.nm_cmd.specs.ShortRun.{Order, fs_name, server_name, phase_shown, phase_row, move_row, abandon_told, requests_limit, reply_of, unknown_status, outcome}
-use Rattle.nm_cmd.specs.ShortRun.Order.{ToMove, ToFreeze, ToAbandon, ToCommit, ToSettle, ToShift, ToShow}
+use Rattle.nm_short.specs.Known.{Known, knows_nothing, learned, call_of, place_of, sent_to, hand_of, put_down, taken_up}
+use Rattle.nm_short.specs.ShortRun.{Order, fs_name, server_name, phase_shown, phase_row, move_row, abandon_told, requests_limit, reply_of, unknown_status, outcome}
+use Rattle.nm_short.specs.ShortRun.Order.{ToMove, ToFreeze, ToAbandon, ToCommit, ToSettle, ToShift, ToShow}
 
 -- ---- a file system
 
@@ -208,7 +208,7 @@ pub record KnockedTo : Type 0 where
 unfoldable pub knocks_to : ℕ → FileTables → ℕ → KnockedTo
 knocks_to zero f s = record { file = f; server = s; door = None }
 knocks_to (suc n) f s = elim (enter_answer (slot_in f s)) [
-  enter.Moved dest ↦ knocks_to n (stepped f s (Entering (enter.Moved dest))) dest
+  | enter.Moved dest ↦ knocks_to n (stepped f s (Entering (enter.Moved dest))) dest
   | enter.Entered pass ↦ record { file = stepped f s (Entering (enter.Entered pass)); server = s; door = Some (enter.Entered pass) }
   | enter.Full passes ↦ record { file = stepped f s (Entering (enter.Full passes)); server = s; door = Some (enter.Full passes) }
   | enter.Delay ↦ record { file = stepped f s (Entering enter.Delay); server = s; door = Some enter.Delay }
@@ -244,7 +244,7 @@ unfoldable pub tries_to : FileTables → ℕ → Action → Call → Known → T
 tries_to f client act call known =
     let knocked = knocks_to requests_limit f (place_of client f.fs f.first known.places) in
     door_to knocked.file knocked.server knocked.door client act call
-        (record known { places = sent_to client f.fs knocked.server known.places })
+    (record known { places = sent_to client f.fs knocked.server known.places })
 
 -- ---- the run
 

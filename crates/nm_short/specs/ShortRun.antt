@@ -46,7 +46,7 @@ use Rattle.nm_slot.specs.Phases.{Phase, Moment, phase_now, source_of}
 use Rattle.nm_slot.specs.Phases.Phase.{At, Closing, Frozen, Passing}
 use Rattle.nm_slot.specs.SlotNow.{SlotView, SlotStep}
 use Rattle.nm_slot.specs.SlotNow.SlotStep.{Entering, Leaving, Applying, Beginning, Freezing, Imaging, Committing, Abandoning, Accepting, Installing}
-use Rattle.nm_cmd.specs.Known.{Known, knows_nothing, learned, call_of, place_of, sent_to, hand_of, put_down, taken_up}
+use Rattle.nm_short.specs.Known.{Known, knows_nothing, learned, call_of, place_of, sent_to, hand_of, put_down, taken_up}
 
 -- ---- a file system
 
@@ -206,7 +206,7 @@ pub record Knocked : Type 0 where
 unfoldable pub knocks : ℕ → FileNow → ℕ → Knocked
 knocks zero f s = record { file = f; server = s; door = None }
 knocks (suc n) f s = elim (enter_answer (at_server f s)) [
-  enter.Moved dest ↦ knocks n (did f s (Entering (enter.Moved dest))) dest
+  | enter.Moved dest ↦ knocks n (did f s (Entering (enter.Moved dest))) dest
   | enter.Entered pass ↦ record { file = did f s (Entering (enter.Entered pass)); server = s; door = Some (enter.Entered pass) }
   | enter.Full passes ↦ record { file = did f s (Entering (enter.Full passes)); server = s; door = Some (enter.Full passes) }
   | enter.Delay ↦ record { file = did f s (Entering enter.Delay); server = s; door = Some enter.Delay }
@@ -262,7 +262,7 @@ unfoldable pub tries : FileNow → ℕ → Action → Call → Known → Tried
 tries f client act call known =
     let knocked = knocks requests_limit f (place_of client f.home.fs f.home.first known.places) in
     at_door knocked.file knocked.server knocked.door client act call
-        (record known { places = sent_to client f.home.fs knocked.server known.places })
+    (record known { places = sent_to client f.home.fs knocked.server known.places })
 
 -- ---- the run
 
