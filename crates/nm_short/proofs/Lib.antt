@@ -1,2 +1,3 @@
 pub mod HistoryFacts
 pub mod SlotLaws
+pub mod Standing
