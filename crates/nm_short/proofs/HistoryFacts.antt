@@ -171,7 +171,7 @@ abbrev pub next : Phase → ℕ → SlotStep → Phase
 next p s step = phase_after p (record { server = s; step = step })
 
 -- What a move has keeps its test, where a step of that move keeps it.
-by_number : {A : Type 0} (its k : ℕ) (f : Move → A) (a : A) (new old : Move) → f new ≡ a → f old ≡ a → f (of_move k its new old) ≡ a
+pub by_number : {A : Type 0} (its k : ℕ) (f : Move → A) (a : A) (new old : Move) → f new ≡ a → f old ≡ a → f (of_move k its new old) ≡ a
 by_number its k f a new old e o = by_test (its == k)
   where
     by_test : (b : Bool) → f (cond b new old) ≡ a

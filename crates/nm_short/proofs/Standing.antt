@@ -135,7 +135,7 @@ dests_within n f t s step stands below k = dest_within n s k step (move_now f.mo
 abbrev pub with_sent : FileTables → ℕ → Option SentTo → Option HandedTo → FileTables
 with_sent t at offer handed = record t { at = at; offer = offer; handed = handed }
 
-stands_by : (n : ℕ) (f : FileNow) (t : FileTables) (s : ℕ) (step : SlotStep) (at : ℕ) (offer : Option SentTo) (handed : Option HandedTo)
+pub stands_by : (n : ℕ) (f : FileNow) (t : FileTables) (s : ℕ) (step : SlotStep) (at : ℕ) (offer : Option SentTo) (handed : Option HandedTo)
     → Stands n f t → Comes f s step → IsKeptOutside t s step → GoesBelow n step
     → at ≡ source (did f s step) → at < n
     → offer ≡ option_map (sent_as (move_now (did f s step).moments)) (latest_offer (did f s step).moments)
@@ -156,7 +156,7 @@ stands_by n f t s step at offer handed stands comes kept below has within sent t
 }
 
 -- the source stays where no move is installed
-source_stays : (f : FileNow) (s : ℕ) (step : SlotStep) → is_installing step ≡ false → source f ≡ source (did f s step)
+pub source_stays : (f : FileNow) (s : ℕ) (step : SlotStep) → is_installing step ≡ false → source f ≡ source (did f s step)
 unfolding phase_now
 source_stays f s step e = sym (same_source (phase_now f.home.first f.moments) s step e)
 
