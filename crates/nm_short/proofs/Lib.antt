@@ -4,3 +4,4 @@ pub mod Standing
 pub mod PhaseLaws
 pub mod OrderLaws
 pub mod FreezeLaws
+pub mod DeliveryLaws

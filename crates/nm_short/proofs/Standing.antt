@@ -95,14 +95,14 @@ handed_same : (move move' : ℕ → Move) (told : Option ℕ) → ((k : ℕ) →
 handed_same move move' None same = refl
 handed_same move move' (Some k) same = ap (λ d. Some (record { dest = d; number = k })) (sym (same k refl))
 
-offered_began : (m : Move) (offer : Offer) → m.offer ≡ Some offer → m ≢ no_move
+pub offered_began : (m : Move) (offer : Offer) → m.offer ≡ Some offer → m ≢ no_move
 offered_began m offer e none = let made : None ≡ Some offer = sym (ap (λ (x : Move). x.offer) none) ∙ e in cc
 
 handed_began : (m : Move) → is_handed m.fate ≡ true → m ≢ no_move
 handed_began m e none = let over : is_handed NotBegun ≡ true = sym (ap (λ (x : Move). is_handed x.fate) none) ∙ e in cc
 
 -- where a move goes that began before the step
-goes_same : (n : ℕ) (f : FileNow) (t : FileTables) (s : ℕ) (step : SlotStep) → Stands n f t → Comes f s step
+pub goes_same : (n : ℕ) (f : FileNow) (t : FileTables) (s : ℕ) (step : SlotStep) → Stands n f t → Comes f s step
     → (k : ℕ) → move_now f.moments k ≢ no_move → (move_now (did f s step).moments k).dest ≡ (move_now f.moments k).dest
 unfolding move_now slot_now
 goes_same n f t s step stands comes =
