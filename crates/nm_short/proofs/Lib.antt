@@ -5,3 +5,5 @@ pub mod PhaseLaws
 pub mod OrderLaws
 pub mod FreezeLaws
 pub mod DeliveryLaws
+pub mod OrderedLaws
+pub mod ClientLaws
