@@ -7,3 +7,4 @@ pub mod FreezeLaws
 pub mod DeliveryLaws
 pub mod OrderedLaws
 pub mod ClientLaws
+pub mod LineLaws
