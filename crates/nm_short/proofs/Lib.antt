@@ -8,3 +8,5 @@ pub mod DeliveryLaws
 pub mod OrderedLaws
 pub mod ClientLaws
 pub mod LineLaws
+pub mod FirstLaws
+pub mod RunLaws

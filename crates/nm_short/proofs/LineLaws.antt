@@ -1,6 +1,7 @@
 -- Each line is the same over tables as over steps.
 use Rattle.std.proofs.Common.{◌≡◌, ◌<◌, ℕ, zero, suc, List, [], ◌∷◌, length, set, Option, Some, None, refl, sym, subst, ap, ◌∙◌}
 use Rattle.std.specs.Prelude.{slice_get, slice_set}
+use Rattle.std.specs.List.{AllZip}
 use Rattle.nm_rules.specs.Actions.{fs_of}
 use Rattle.nm_rules.specs.declared.action.Action.{Action}
 use Rattle.nm_rules.specs.declared.calls.Call.{Call}
@@ -23,10 +24,7 @@ use Rattle.nm_short.proofs.Standing.{Stands}
 
 -- each stands for each, in order
 abbrev pub AllStand : ℕ → List FileNow → List FileTables → Type 0
-AllStand n [] [] = Unit {0}
-AllStand n [] (t ∷ ts) = ⊥
-AllStand n (f ∷ fs) [] = ⊥
-AllStand n (f ∷ fs) (t ∷ ts) = Stands n f t × AllStand n fs ts
+AllStand n fs ts = AllZip (Stands n) fs ts
 
 abbrev pub BothStand : ℕ → Option FileNow → Option FileTables → Type 0
 BothStand n None None = Unit {0}
