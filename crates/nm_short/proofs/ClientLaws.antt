@@ -72,7 +72,7 @@ pass_out f s epoch fs = rw (eq-eqb s s refl, eq-eqb epoch epoch refl) refl
 -- ---- knocking
 
 -- a knock, and what comes of a further one
-abbrev knock_of : (FileNow → ℕ → Knocked) → FileNow → ℕ → Enter → Knocked
+abbrev pub knock_of : (FileNow → ℕ → Knocked) → FileNow → ℕ → Enter → Knocked
 knock_of further f s a = elim a [
   | enter.Moved dest ↦ further (did f s (Entering (enter.Moved dest))) dest
   | enter.Entered pass ↦ record { file = did f s (Entering (enter.Entered pass)); server = s; door = Some (enter.Entered pass) }

@@ -10,3 +10,4 @@ pub mod ClientLaws
 pub mod LineLaws
 pub mod FirstLaws
 pub mod RunLaws
+pub mod HomeLaws

@@ -2,21 +2,23 @@
 use Rattle.std.proofs.Common.{◌≡◌, ◌<◌, ◌≤◌, ◌+◌, ℕ, zero, suc, List, [], ◌∷◌, ◌++◌, drop, take, length, get_or, append_assoc, add-one, Option, Some, None, refl, ap, sym, subst, ◌∙◌, arith}
 use Rattle.std.proofs.lemmas.List.{append-nil, drop_all}
 use Rattle.std.proofs.lemmas.List.Elements.{All-head, All-tail, All-take}
-use Rattle.std.proofs.lemmas.Option.{unwrap_or-slice_get, slice_get-get_or, get_or_from_slice_get}
+use Rattle.std.proofs.lemmas.Option.{same_Some, slice_get-map}
 use Rattle.std.proofs.Math.Seq.{drop-cons}
-use Rattle.std.specs.Prelude.{slice_get, unwrap_or}
+use Rattle.std.specs.Prelude.{slice_get, unwrap_or, option_map}
 use Rattle.std.specs.List.{All, AllZip}
 use Rattle.nm_script.specs.Grammar.{IsRun, IsWellFormed}
 use Rattle.nm_script.specs.Text.{report_text, text_of}
 use Rattle.nm_script.specs.declared.report.ReportRow.{ReportRow}
+use Rattle.nm_script.specs.declared.script.FsRow.{FsRow}
 use Rattle.nm_script.specs.declared.script.Head.{Head}
 use Rattle.nm_script.specs.declared.script.Line.{Line}
 use Rattle.nm_script.specs.declared.script.Script.{Script}
 use Rattle.nm_slot.specs.SlotNow.{SlotView}
-use Rattle.nm_short.specs.RunFacts.{run_after, tables_after, run_at, tables_at, run_of_head, IsAccounted}
+use Rattle.nm_short.specs.RunFacts.{run_after, tables_after, run_at, tables_at, run_of_head, home_of, IsAccounted}
 use Rattle.nm_short.specs.ShortRun.{FileNow, RunNow, Ran, at_server, run_line, reports, short_run}
 use Rattle.nm_short.specs.Tables.{FileTables, TablesNow, Step, slot_in, no_part, told_line, text_from, tables_of_head}
 use Rattle.nm_short.proofs.FirstLaws.{run_at_first}
+use Rattle.nm_short.proofs.HomeLaws.{homes_after, home_at}
 use Rattle.nm_short.proofs.LineLaws.{AllStand, BothStand, RunStands, IsRan, line_same, stands_at}
 use Rattle.nm_short.proofs.Standing.{Stands}
 
@@ -71,3 +73,39 @@ stands_after head r t (line ∷ lines) fits run =
 stands_at_line : (s : Script) (lines : ℕ) → IsWellFormed s → RunStands (length s.head.servers) (run_at s lines) (tables_at s lines)
 stands_at_line s lines fits =
     stands_after s.head (run_of_head s.head) (tables_of_head s.head) (take lines s.lines) (All-take (IsRun s.head) lines s.lines fits.lines) (run_at_first s.head fits.head)
+
+column_at : (n : ℕ) (f : FileNow) (t : FileTables) → Stands n f t → (server : ℕ) (slot : SlotView) → slice_get t.slots server ≡ Some slot → slot ≡ at_server f server
+unfolding slot_in
+column_at n f t stands server slot at = sym (ap (λ o. unwrap_or o (no_part t.fs)) at) ∙ stands.slots server
+
+account_of : (s : Script) (lines fs : ℕ) (row : FsRow) (f : Option FileNow) (t : Option FileTables)
+    → slice_get (run_at s lines).files fs ≡ f → slice_get (tables_at s lines).files fs ≡ t → BothStand (length s.head.servers) f t
+    → option_map (λ (x : FileNow). x.home) f ≡ Some (home_of fs row) → IsAccounted s lines fs row
+account_of s lines fs row None t of_run of_tables both home = cc
+account_of s lines fs row (Some f) None of_run of_tables both home = absurd both
+account_of s lines fs row (Some f) (Some t) of_run of_tables both home = record {
+  file = f;
+  tables = t;
+  of_run = of_run;
+  of_tables = of_tables;
+  home = same_Some f.home (home_of fs row) home;
+  steps = both.history;
+  servers = both.count;
+  columns = column_at (length s.head.servers) f t both;
+}
+
+home_after : (s : Script) (lines fs : ℕ) (row : FsRow) → slice_get s.head.file_systems fs ≡ Some row
+    → option_map (λ (x : FileNow). x.home) (slice_get (run_at s lines).files fs) ≡ Some (home_of fs row)
+home_after s lines fs row at =
+    let sum : 0 + fs ≡ fs = omega arith in
+    sym (slice_get-map (λ (x : FileNow). x.home) (run_at s lines).files fs)
+    ∙ ap (λ hs. slice_get hs fs) (homes_after s.head (run_of_head s.head) (take lines s.lines))
+    ∙ home_at 0 fs s.head.file_systems row at
+    ∙ ap (λ j. Some (home_of j row)) sum
+
+-- After so many lines of a script each of its file systems is accounted for.
+pub accounted : (s : Script) → IsWellFormed s → (lines fs : ℕ) (row : FsRow) → slice_get s.head.file_systems fs ≡ Some row → IsAccounted s lines fs row
+accounted s fits lines fs row at =
+    account_of s lines fs row (slice_get (run_at s lines).files fs) (slice_get (tables_at s lines).files fs) refl refl
+    (stands_at (length s.head.servers) fs (run_at s lines).files (tables_at s lines).files (stands_at_line s lines fits).files)
+    (home_after s lines fs row at)

@@ -1,5 +1,6 @@
 -- What holds of the run of every script, after any number of its lines.
-use Rattle.std.specs.Prelude.{◌≡◌, ◌<◌, ℕ, List, [], ◌∷◌, Option, Some, length, take, slice_get}
+use Rattle.std.specs.Prelude.{◌≡◌, ℕ, Bool, false, List, [], ◌∷◌, Option, Some, length, take, slice_get}
+use Rattle.nm_script.specs.declared.script.FsRow.{FsRow}
 use Rattle.nm_script.specs.declared.script.Head.{Head}
 use Rattle.nm_script.specs.declared.script.Line.{Line}
 use Rattle.nm_script.specs.declared.script.Script.{Script}
@@ -29,12 +30,17 @@ run_at s lines = run_after s.head (run_of_head s.head) (take lines s.lines)
 abbrev pub tables_at : Script → ℕ → TablesNow
 tables_at s lines = tables_after s.head (tables_of_head s.head) (take lines s.lines)
 
+-- the file system of a row of the head
+abbrev pub home_of : ℕ → FsRow → Home
+home_of fs row = record { fs = fs; grants = false; first = row.at }
+
 -- A file system after so many lines: what its servers did came as it may, and what each server has of it is its column.
-pub record IsAccounted (s : Script) (lines fs : ℕ) : Type 0 where
+pub record IsAccounted (s : Script) (lines fs : ℕ) (row : FsRow) : Type 0 where
   pub file : FileNow
   pub tables : FileTables
   pub of_run : slice_get (run_at s lines).files fs ≡ Some file
   pub of_tables : slice_get (tables_at s lines).files fs ≡ Some tables
+  pub home : file.home ≡ home_of fs row
   pub steps : IsHistory file.home file.moments
   -- each server of the script has its slot
   pub servers : length tables.slots ≡ length s.head.servers
