@@ -1,11 +1,10 @@
 -- Changes that keep what holds in each phase alike.
-use Rattle.std.proofs.Common.{◌≡◌, ◌≢◌, ◌<◌, ◌≤◌, ℕ, Bool, true, false, cond, refl, sym, subst, ap, ◌∙◌, Option, Some, None, arith}
-use Rattle.std.specs.Prelude.{◌+◌}
-use Rattle.nm_slot.specs.Moves.{Move, Fate, no_move}
-use Rattle.nm_slot.specs.Moves.Fate.{NotBegun, UnderWay, GivenUp, Handed, Done}
+use Rattle.std.proofs.Common.{◌≡◌, ◌≢◌, ◌<◌, ◌≤◌, ℕ, false, sym, subst, ap, ◌∙◌, Some, arith}
+use Rattle.nm_slot.specs.Moves.{Move, no_move}
+use Rattle.nm_slot.specs.Moves.Fate.{Done}
 use Rattle.nm_slot.specs.SlotNow.{Offer, Own}
-use Rattle.nm_slot.proofs.Facts.{NumbersAgree, PreparedIsHeld, IsFor, IsRemembered, SettledIsCommitted, Agreed, is_going, new_move}
-use Rattle.nm_slot.proofs.Updates.{put, by_place, put_there, put_elsewhere}
+use Rattle.nm_slot.proofs.Facts.{NumbersAgree, IsFor, IsRemembered, Agreed, is_going}
+use Rattle.nm_slot.proofs.Updates.{put, by_place}
 
 -- what was offered is a move that began
 pub began : (source begins : ℕ) (move : ℕ → Move) (own : ℕ → Own) (n : ℕ) (offer : Offer) → NumbersAgree source begins move own

@@ -68,6 +68,7 @@ pub record IsClosing (begins source dest number : ℕ) (move : Move) : Type 0 wh
 pub record IsFrozen (begins source dest number : ℕ) (move : Move) (held : Option Offer) (offer : Offer) : Type 0 where
   pub latest : number ≡ begins
   pub apart : source ≢ dest
+  pub comes_from : move.source ≡ source
   pub goes_to : move.dest ≡ dest
   pub going : move.fate ≡ UnderWay
   pub offered : (its : Offer) → move.offer ≡ Some its → its ≡ offer

@@ -1,18 +1,18 @@
 -- What a column and an answer say of the phase.
-use Rattle.std.proofs.Common.{◌≡◌, ◌≢◌, ◌<◌, ◌≤◌, ℕ, Bool, true, false, cond, refl, sym, subst, ap, ◌∙◌, Option, Some, None, arith, eqb-true, eq-eqb}
-use Rattle.std.specs.Prelude.{◌+◌, ◌==◌}
+use Rattle.std.proofs.Common.{◌≡◌, ℕ, Bool, true, false, cond, refl, sym, ap, ◌∙◌, eqb-true, eq-eqb}
+use Rattle.std.specs.Prelude.{◌==◌}
 use Rattle.nm_rules.specs.Seen.{Seen}
 use Rattle.nm_slot.specs.declared.answers.Abandon.TheVariants as abandon
 use Rattle.nm_slot.specs.declared.answers.Begin.TheVariants as begin
 use Rattle.nm_slot.specs.declared.answers.Freeze.TheVariants as freeze
 use Rattle.nm_slot.specs.declared.answers.Install.TheVariants as install
-use Rattle.nm_slot.specs.Phases.{Phase, Moment, source_of, after_at_source, after_elsewhere, phase_after, column}
+use Rattle.nm_slot.specs.Phases.{Phase, source_of, after_at_source, after_elsewhere, phase_after, column}
 use Rattle.nm_slot.specs.Phases.Phase.{At, Closing, Frozen, Passing}
-use Rattle.nm_slot.specs.SlotNow.{Doing, Stage, Offer, Own, SlotStep}
+use Rattle.nm_slot.specs.SlotNow.{Doing, Stage, SlotStep}
 use Rattle.nm_slot.specs.SlotNow.Doing.{Serves, Closes, Froze}
 use Rattle.nm_slot.specs.SlotNow.Stage.{Away, Here}
-use Rattle.nm_slot.specs.SlotNow.HandedOver.{Committed, Again, Dead}
-use Rattle.nm_slot.specs.SlotNow.SlotStep.{Entering, Leaving, Applying, Beginning, Freezing, Imaging, Committing, Abandoning, Accepting, Installing, Withdrawing}
+use Rattle.nm_slot.specs.SlotNow.HandedOver.{Committed}
+use Rattle.nm_slot.specs.SlotNow.SlotStep.{Beginning, Freezing, Committing, Abandoning, Installing}
 
 -- ---- a column tells the phase
 

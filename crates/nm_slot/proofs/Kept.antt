@@ -1,8 +1,7 @@
 -- Each answered step keeps the facts.
-use Rattle.std.proofs.Common.{◌≡◌, ◌≢◌, ◌<◌, ◌≤◌, ℕ, Bool, true, false, cond, List, refl, sym, subst, ap, ◌∙◌, Option, Some, None, arith, eqb-true}
-use Rattle.std.specs.Prelude.{◌+◌, ◌==◌, ◌^◌, nat_le, not}
+use Rattle.std.proofs.Common.{◌≡◌, ◌≢◌, ℕ, Bool, true, false, cond, List, refl, sym, subst, ap, ◌∙◌, Option, Some, None, eqb-true}
+use Rattle.std.specs.Prelude.{◌+◌, ◌==◌}
 use Rattle.std.proofs.lemmas.Bool.{eqb-false}
-use Rattle.std.proofs.lemmas.Bool.Decides.{nat_tests}
 use Rattle.nm_rules.specs.Seen.{Seen}
 use Rattle.nm_rules.specs.Holders.{holders}
 use Rattle.nm_rules.specs.Parties.{Party}
@@ -10,29 +9,23 @@ use Rattle.nm_rules.specs.declared.calls.Call.{Call}
 use Rattle.nm_rules.specs.declared.calls.Reply.{Reply}
 use Rattle.nm_rules.specs.declared.calls.Verdict.{Verdict}
 use Rattle.nm_slot.specs.declared.answers.Abandon.TheVariants as abandon
-use Rattle.nm_slot.specs.declared.answers.Accept.TheVariants as accept
 use Rattle.nm_slot.specs.declared.answers.Answer.TheVariants as answer
 use Rattle.nm_slot.specs.declared.answers.Begin.TheVariants as begin
 use Rattle.nm_slot.specs.declared.answers.Freeze.TheVariants as freeze
-use Rattle.nm_slot.specs.declared.answers.Install.TheVariants as install
-use Rattle.nm_slot.specs.Answers.{applied, called, begun as begin_by, is_at_end, frozen as freeze_by, offered, committed as commit_by, committed_away, is_left_by, abandoned as abandon_by, abandoned_away, accepted as accept_by, accepted_at, installed as install_by, is_offer_of}
-use Rattle.nm_slot.specs.Changes.{own_after, own_accepted, own_installed}
-use Rattle.nm_slot.specs.History.{dest_from}
-use Rattle.nm_slot.specs.Moves.{Move, Fate, no_move, is_handed}
-use Rattle.nm_slot.specs.Moves.Fate.{NotBegun, UnderWay, GivenUp, Handed, Done}
-use Rattle.nm_slot.specs.Phases.{Phase, Moment, source_of, phase_after, after_at_source, after_elsewhere, column}
+use Rattle.nm_slot.specs.Answers.{applied, begun as begin_by, is_at_end, frozen as freeze_by, offered, committed as commit_by, committed_away, is_left_by, abandoned as abandon_by, abandoned_away}
+use Rattle.nm_slot.specs.Moves.{Move}
+use Rattle.nm_slot.specs.Phases.{Phase, source_of, phase_after, after_at_source, column}
 use Rattle.nm_slot.specs.Phases.Phase.{At, Closing, Frozen, Passing}
-use Rattle.nm_slot.specs.SlotNow.{Doing, Stage, Offer, Left, Own, HandedOver, SlotStep}
+use Rattle.nm_slot.specs.SlotNow.{Stage, Offer, Left, Own, SlotStep}
 use Rattle.nm_slot.specs.SlotNow.Doing.{Serves, Closes, Froze}
 use Rattle.nm_slot.specs.SlotNow.Stage.{Away, Here}
 use Rattle.nm_slot.specs.SlotNow.HandedOver.{Committed, Again, Dead}
-use Rattle.nm_slot.specs.SlotNow.SlotStep.{Entering, Leaving, Applying, Beginning, Freezing, Imaging, Committing, Abandoning, Accepting, Installing, Withdrawing}
-use Rattle.nm_slot.proofs.Facts.{Facts, new_move, is_going, offer_now, IsFor, Agreed}
-use Rattle.nm_slot.proofs.Inversions.{IsSource, is_source, at_source, same_phase, changes_phase, phase_by}
-use Rattle.nm_slot.proofs.StepsHeld.{prepared, prepared_move, accepted, own_holding, some_same}
-use Rattle.nm_slot.proofs.StepsSettled.{installed, own_serving, done_move}
-use Rattle.nm_slot.proofs.StepsSource.{IsSame, quiet, called_at, called_closing, begun, own_begun, frozen, imaged, offering, committed, handed_move, given_up, given_up_move}
-use Rattle.nm_slot.proofs.Updates.{put, put_same, put_there}
+use Rattle.nm_slot.specs.SlotNow.SlotStep.{Beginning, Freezing, Imaging, Committing, Abandoning}
+use Rattle.nm_slot.proofs.Facts.{Facts, new_move, offer_now}
+use Rattle.nm_slot.proofs.Inversions.{is_source, at_source}
+use Rattle.nm_slot.proofs.StepsHeld.{prepared, some_same}
+use Rattle.nm_slot.proofs.StepsSource.{quiet, called_at, called_closing, begun, own_begun, frozen, imaged, offering, committed, handed_move, given_up, given_up_move}
+use Rattle.nm_slot.proofs.Updates.{put}
 
 -- the phase after a step at a server
 abbrev pub next : Phase → ℕ → SlotStep → Phase
@@ -69,7 +62,7 @@ begun_kept p begins move own t s dest n (Here Serves state) e a facts =
 
 -- ---- it freezes
 
-froze_number : (number n : ℕ) (own : Own) (b : Bool) → freeze.Frozen n ≡ cond b (freeze.Frozen number) (freeze.Waiting own.out) → n ≡ number
+pub froze_number : (number n : ℕ) (own : Own) (b : Bool) → freeze.Frozen n ≡ cond b (freeze.Frozen number) (freeze.Waiting own.out) → n ≡ number
 froze_number number n own true a = cc
 froze_number number n own false a = cc
 
@@ -105,7 +98,7 @@ imaged_kept p begins move own t s offer (Here (Froze dest number) state) e a fac
 
 -- ---- it is handed over
 
-committed_number : (its n : ℕ) (parties all : List Party) (known : ℕ) (b : Bool) → (its == n) ≡ b → Committed parties ≡ cond b (Committed all) (Dead known) → its ≡ n
+pub committed_number : (its n : ℕ) (parties all : List Party) (known : ℕ) (b : Bool) → (its == n) ≡ b → Committed parties ≡ cond b (Committed all) (Dead known) → its ≡ n
 committed_number its n parties all known true e a = eqb-true its n e
 committed_number its n parties all known false e a = cc
 
@@ -113,7 +106,7 @@ not_again : (b : Bool) (parties : List Party) (known : ℕ) → Committed partie
 not_again true parties known a = cc
 not_again false parties known a = cc
 
-not_away : (n : ℕ) (parties : List Party) (own : Own) (held : Option Offer) → Committed parties ≡ committed_away n held own → ⊥
+pub not_away : (n : ℕ) (parties : List Party) (own : Own) (held : Option Offer) → Committed parties ≡ committed_away n held own → ⊥
 not_away n parties own None a = not_again (is_left_by n own.left) parties own.known a
 not_away n parties own (Some offer) a = cc
 
@@ -136,7 +129,7 @@ committed_kept p begins move own t s n parties gone (Here (Froze dest number) st
 
 -- ---- it is given up
 
-not_back : (n : ℕ) (held : Option Offer) (left : Option Left) → abandon.Back n ≡ abandoned_away held left → ⊥
+pub not_back : (n : ℕ) (held : Option Offer) (left : Option Left) → abandon.Back n ≡ abandoned_away held left → ⊥
 not_back n None None a = cc
 not_back n None (Some left) a = cc
 not_back n (Some offer) left a = cc

@@ -1,6 +1,6 @@
 -- Each answered step of a destination keeps the facts.
-use Rattle.std.proofs.Common.{◌≡◌, ◌≢◌, ◌<◌, ◌≤◌, ℕ, Bool, true, false, cond, refl, sym, subst, ap, ◌∙◌, Option, Some, None, arith, eqb-true, eq-eqb, ne_eqb}
-use Rattle.std.specs.Prelude.{◌+◌, ◌==◌, ◌&&◌, nat_le}
+use Rattle.std.proofs.Common.{◌≡◌, ◌≢◌, ◌<◌, ℕ, Bool, true, false, cond, refl, sym, subst, ap, ◌∙◌, Option, Some, None, arith, eqb-true, eq-eqb, ne_eqb}
+use Rattle.std.specs.Prelude.{◌==◌, nat_le}
 use Rattle.std.proofs.lemmas.Bool.{eqb-false}
 use Rattle.std.proofs.lemmas.Bool.Decides.{nat_tests}
 use Rattle.nm_rules.specs.Seen.{Seen}
@@ -8,18 +8,17 @@ use Rattle.nm_slot.specs.declared.answers.Accept.TheVariants as accept
 use Rattle.nm_slot.specs.declared.answers.Install.TheVariants as install
 use Rattle.nm_slot.specs.Answers.{accepted as accept_by, accepted_at, installed as install_by, is_offer_of}
 use Rattle.nm_slot.specs.Changes.{own_accepted, own_installed}
-use Rattle.nm_slot.specs.Moves.{Move, Fate, no_move, is_handed}
+use Rattle.nm_slot.specs.Moves.{Move, Fate, is_handed}
 use Rattle.nm_slot.specs.Moves.Fate.{NotBegun, UnderWay, GivenUp, Handed, Done}
-use Rattle.nm_slot.specs.Phases.{Phase, Moment, source_of, phase_after, after_at_source, after_elsewhere, column}
+use Rattle.nm_slot.specs.Phases.{Phase}
 use Rattle.nm_slot.specs.Phases.Phase.{At, Closing, Frozen, Passing}
-use Rattle.nm_slot.specs.SlotNow.{Doing, Stage, Offer, Left, Own, SlotStep}
-use Rattle.nm_slot.specs.SlotNow.SlotStep.{Entering, Leaving, Applying, Beginning, Freezing, Imaging, Committing, Abandoning, Accepting, Installing, Withdrawing}
-use Rattle.nm_slot.proofs.Facts.{Facts, is_going, offer_now, IsFor, Agreed, OffersStand, SettledIsCommitted}
-use Rattle.nm_slot.proofs.Inversions.{same_phase}
+use Rattle.nm_slot.specs.SlotNow.{Stage, Offer, Own}
+use Rattle.nm_slot.specs.SlotNow.SlotStep.{Installing}
+use Rattle.nm_slot.proofs.Facts.{Facts, is_going, offer_now, IsFor, OffersStand, SettledIsCommitted}
 use Rattle.nm_slot.proofs.Kept.{next}
 use Rattle.nm_slot.proofs.StepsHeld.{prepared, prepared_move, accepted, own_holding, some_same}
 use Rattle.nm_slot.proofs.StepsSettled.{installed, own_serving, done_move}
-use Rattle.nm_slot.proofs.Updates.{put, put_like, put_unchanged, put_there, put_elsewhere}
+use Rattle.nm_slot.proofs.Updates.{put, put_like, put_unchanged, put_there}
 
 -- ---- an offer is held
 
@@ -116,7 +115,7 @@ is_passing (Passing q dest number) begins move own t s n latest handed goes offe
     let to : dest ≡ s = sym offers.goes_to ∙ ap (λ k. (move k).dest) same ∙ goes in
     record { source = q; phase = ap (λ d. Passing q d number) to ∙ ap (λ k. Passing q s k) same }
 
-pub handed_over_to : (p : Phase) (begins : ℕ) (move : ℕ → Move) (own : ℕ → Own) (t : Seen) (s n : ℕ)
+handed_over_to : (p : Phase) (begins : ℕ) (move : ℕ → Move) (own : ℕ → Own) (t : Seen) (s n : ℕ)
     → is_handed (move n).fate ≡ true → (move n).fate ≢ Done → (move n).dest ≡ s → Facts p begins move own t → IsHanded p s n
 handed_over_to p begins move own t s n handed not_done goes facts =
     let fate : (move n).fate ≡ Handed = handed_fate (move n).fate handed not_done in
@@ -145,23 +144,58 @@ is_installed n known (Some offer) a = now_holds n offer (offer.number == n) (nat
 pub installs_held : (n : ℕ) (own : Own) → install.Now ≡ install_by n own → IsInstalled n own.held
 installs_held n own a = is_installed n own.installed own.held a
 
-pub not_done_yet : (move : ℕ → Move) (s known n : ℕ) (offer : Offer) → offer.number ≡ n → IsFor s known offer (move offer.number) → (move n).fate ≢ Done
+not_done_yet : (move : ℕ → Move) (s known n : ℕ) (offer : Offer) → offer.number ≡ n → IsFor s known offer (move offer.number) → (move n).fate ≢ Done
 not_done_yet move s known n offer e it = subst (λ k. (move k).fate ≢ Done) e it.not_done
 
-passed_to : (q s n : ℕ) → q ≢ s → next (Passing q s n) s (Installing n install.Now) ≡ At s
-passed_to q s n apart = rw (ne_eqb s q (λ e. apart (sym e)), eq-eqb s s refl, eq-eqb n n refl) refl
+-- the offer of a move that was handed over is held at its destination
+pub handed_to : (p : Phase) (begins : ℕ) (move : ℕ → Move) (own : ℕ → Own) (t : Seen) (s n : ℕ) → (move n).fate ≡ Handed → (move n).dest ≡ s
+    → Facts p begins move own t → is_offer_of n (own s).held ≡ true
+handed_to p begins move own t s n fate goes facts =
+    let passing = is_passing p begins move own t s n (is_latest begins n move own facts.agreed.settled fate) fate goes facts.offers in
+    let here : Facts (Passing passing.source s n) begins move own t = subst (λ q. Facts q begins move own t) passing.phase facts in
+    ap (is_offer_of n) here.offers.ready ∙ eq-eqb n n refl
+
+-- What is installed was handed over to that server by this move, and is the state as it is.
+pub record IsReady (p : Phase) (t : Seen) (s n : ℕ) (o : Option Offer) : Type 0 where
+  pub source : ℕ
+  pub offer : Offer
+  pub phase : p ≡ Passing source s n
+  pub apart : source ≢ s
+  pub holds : o ≡ Some offer
+  pub number : offer.number ≡ n
+  pub state : offer.state ≡ t
+
+pub is_ready : (p : Phase) (begins : ℕ) (move : ℕ → Move) (own : ℕ → Own) (t : Seen) (s n : ℕ) → install.Now ≡ install_by n (own s)
+    → is_handed (move n).fate ≡ true → (move n).dest ≡ s → Facts p begins move own t → IsReady p t s n (own s).held
+is_ready p begins move own t s n a handed goes facts =
+    let it = installs_held n (own s) a in
+    let not_done : (move n).fate ≢ Done = not_done_yet move s (own s).known n it.offer it.number (facts.agreed.held.held s it.offer it.holds) in
+    let passing = handed_over_to p begins move own t s n handed not_done goes facts in
+    let here : Facts (Passing passing.source s n) begins move own t = subst (λ q. Facts q begins move own t) passing.phase facts in
+    record {
+      source = passing.source;
+      offer = offer_now n t (own passing.source);
+      phase = passing.phase;
+      apart = here.offers.apart;
+      holds = here.offers.ready;
+      number = refl;
+      state = refl;
+    }
+
+pub passes_on : (source s n : ℕ) → source ≢ s → next (Passing source s n) s (Installing n install.Now) ≡ At s
+passes_on source s n apart = rw (ne_eqb s source (λ e. apart (sym e)), eq-eqb s s refl, eq-eqb n n refl) refl
+
+pub passed_to : (p : Phase) (t : Seen) (s n : ℕ) (o : Option Offer) → IsReady p t s n o → next p s (Installing n install.Now) ≡ At s
+passed_to p t s n o ready = ap (λ q. next q s (Installing n install.Now)) ready.phase ∙ passes_on ready.source s n ready.apart
 
 pub now_kept : (p : Phase) (begins : ℕ) (move : ℕ → Move) (own : ℕ → Own) (t : Seen) (s n : ℕ) → install.Now ≡ install_by n (own s)
     → is_handed (move n).fate ≡ true → (move n).dest ≡ s
     → Facts p begins move own t
     → Facts (next p s (Installing n install.Now)) begins (put n (λ k. done_move (move k)) move) (put s (λ r. own_installed n (own r).held (own r)) own) t
 now_kept p begins move own t s n a handed goes facts =
-    let it = installs_held n (own s) a in
-    let not_done : (move n).fate ≢ Done = not_done_yet move s (own s).known n it.offer it.number (facts.agreed.held.held s it.offer it.holds) in
-    let passing = handed_over_to p begins move own t s n handed not_done goes facts in
-    let here : Facts (Passing passing.source s n) begins move own t = subst (λ q. Facts q begins move own t) passing.phase facts in
+    let ready = is_ready p begins move own t s n a handed goes facts in
     subst (λ q. Facts q begins (put n (λ k. done_move (move k)) move) (put s (λ r. own_installed n (own r).held (own r)) own) t)
-    (sym (ap (λ q. next q s (Installing n install.Now)) passing.phase ∙ passed_to passing.source s n here.offers.apart))
+    (sym (passed_to p t s n (own s).held ready))
     (subst (λ o. Facts (At s) begins (put n (λ k. done_move (move k)) move) o t)
-    (sym (put_like s (λ r. own_installed n (own r).held (own r)) (λ r. own_serving n it.offer (own r)) own (ap (λ h. own_installed n h (own s)) it.holds)))
-    (installed passing.source s n begins move own t it.offer it.holds it.number here))
+    (sym (put_like s (λ r. own_installed n (own r).held (own r)) (λ r. own_serving n ready.offer (own r)) own (ap (λ h. own_installed n h (own s)) ready.holds)))
+    (installed ready.source s n begins move own t ready.offer ready.holds ready.number (subst (λ q. Facts q begins move own t) ready.phase facts)))

@@ -1,8 +1,16 @@
+pub mod MoveGetsOn
 pub mod Agreed
 pub mod Facts
+pub mod Freezes
+pub mod HistoryFacts
+pub mod HistoryLaws
 pub mod Inversions
 pub mod Kept
 pub mod KeptHeld
+pub mod NeverComes
+pub mod OneHolder
+pub mod PassesOut
+pub mod SlotsFollow
 pub mod StepsHeld
 pub mod StepsSettled
 pub mod StepsSource

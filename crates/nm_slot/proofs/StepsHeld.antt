@@ -1,17 +1,14 @@
 -- Steps at a destination keep the facts.
-use Rattle.std.proofs.Common.{◌≡◌, ◌≢◌, ◌<◌, ◌≤◌, ℕ, Bool, true, false, cond, refl, sym, subst, ap, ◌∙◌, Option, Some, None, arith}
-use Rattle.std.specs.Prelude.{◌+◌, ◌==◌, max}
+use Rattle.std.proofs.Common.{◌≡◌, ◌≢◌, ◌<◌, ◌≤◌, ℕ, true, false, refl, sym, subst, ap, ◌∙◌, Some, None, arith}
 use Rattle.nm_rules.specs.Seen.{Seen}
-use Rattle.nm_slot.specs.Answers.{is_offer_of}
-use Rattle.nm_slot.specs.Changes.{own_withdrawn}
-use Rattle.nm_slot.specs.Moves.{Move, Fate, no_move}
-use Rattle.nm_slot.specs.Moves.Fate.{NotBegun, UnderWay, GivenUp, Handed, Done}
+use Rattle.nm_slot.specs.Moves.{Move, Fate}
+use Rattle.nm_slot.specs.Moves.Fate.{UnderWay, Handed}
 use Rattle.nm_slot.specs.Phases.{Phase, source_of}
 use Rattle.nm_slot.specs.Phases.Phase.{At, Closing, Frozen, Passing}
 use Rattle.nm_slot.specs.SlotNow.{Offer, Own}
-use Rattle.nm_slot.proofs.Facts.{NumbersAgree, PreparedIsHeld, IsFor, IsRemembered, SettledIsCommitted, Agreed, is_going, new_move, offer_now, IsClosing, IsFrozen, IsPassing, OffersStand, Facts}
-use Rattle.nm_slot.proofs.Agreed.{began, IsFurther, IsLater, agreed_further, agreed_later, numbers_further}
-use Rattle.nm_slot.proofs.Updates.{put, by_place, put_there, put_elsewhere}
+use Rattle.nm_slot.proofs.Facts.{IsFor, IsRemembered, is_going, offer_now, IsClosing, IsFrozen, IsPassing, OffersStand, Facts}
+use Rattle.nm_slot.proofs.Agreed.{began, agreed_further, agreed_later}
+use Rattle.nm_slot.proofs.Updates.{put, by_place, put_elsewhere}
 
 -- ---- what is on offer stays so while its source and its destination keep it
 
@@ -35,6 +32,7 @@ offers_kept (Frozen source dest number) begins move own new t kept offers =
     subst (λ o. IsFrozen begins source dest number (move number) (new dest).held o) (same_offer number t (new source) (own source) kept.epoch kept.count) (record {
       latest = offers.latest;
       apart = offers.apart;
+      comes_from = offers.comes_from;
       goes_to = offers.goes_to;
       going = offers.going;
       offered = offers.offered;
@@ -78,6 +76,7 @@ offers_prepared (Frozen source dest number) begins move own t s n offer held mad
     (λ at. record {
       latest = at.latest;
       apart = at.apart;
+      comes_from = at.comes_from;
       goes_to = at.goes_to;
       going = at.going;
       offered = at.offered;

@@ -1,17 +1,17 @@
 -- What a destination is told of a move that is over keeps the facts.
-use Rattle.std.proofs.Common.{◌≡◌, ◌≢◌, ◌<◌, ◌≤◌, ℕ, Bool, true, false, cond, refl, sym, subst, ap, ◌∙◌, Option, Some, None, arith, eqb-true}
-use Rattle.std.specs.Prelude.{◌+◌, ◌==◌, max}
+use Rattle.std.proofs.Common.{◌≡◌, ◌≢◌, ◌≤◌, ℕ, Bool, true, false, refl, sym, subst, ap, ◌∙◌, Option, Some, None, arith, eqb-true}
+use Rattle.std.specs.Prelude.{max}
 use Rattle.nm_rules.specs.Seen.{Seen}
 use Rattle.nm_slot.specs.Answers.{is_offer_of}
 use Rattle.nm_slot.specs.Changes.{own_withdrawn}
-use Rattle.nm_slot.specs.Moves.{Move, Fate, no_move}
-use Rattle.nm_slot.specs.Moves.Fate.{NotBegun, UnderWay, GivenUp, Handed, Done}
+use Rattle.nm_slot.specs.Moves.{Move}
+use Rattle.nm_slot.specs.Moves.Fate.{GivenUp, Done}
 use Rattle.nm_slot.specs.Phases.{Phase, source_of}
-use Rattle.nm_slot.specs.Phases.Phase.{At, Closing, Frozen, Passing}
+use Rattle.nm_slot.specs.Phases.Phase.{At, Passing}
 use Rattle.nm_slot.specs.SlotNow.{Offer, Own}
-use Rattle.nm_slot.proofs.Facts.{NumbersAgree, PreparedIsHeld, IsFor, IsRemembered, SettledIsCommitted, Agreed, is_going, offer_now, IsPassing, OffersStand, Facts}
-use Rattle.nm_slot.proofs.Agreed.{began, IsLater, agreed_later, numbers_further}
-use Rattle.nm_slot.proofs.StepsHeld.{IsKept, offers_kept}
+use Rattle.nm_slot.proofs.Facts.{NumbersAgree, IsFor, IsRemembered, Agreed, is_going, Facts}
+use Rattle.nm_slot.proofs.Agreed.{agreed_later, numbers_further}
+use Rattle.nm_slot.proofs.StepsHeld.{offers_kept}
 use Rattle.nm_slot.proofs.Updates.{put, by_place, put_there, put_elsewhere}
 
 -- ---- it was given up

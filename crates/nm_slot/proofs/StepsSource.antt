@@ -1,16 +1,16 @@
 -- Steps of the server that has the file system keep the facts.
-use Rattle.std.proofs.Common.{◌≡◌, ◌≢◌, ◌<◌, ◌≤◌, ℕ, Bool, true, false, cond, refl, sym, subst, ap, ◌∙◌, Option, Some, None, arith, eqb-true}
+use Rattle.std.proofs.Common.{◌≡◌, ◌≢◌, ◌<◌, ◌≤◌, ℕ, Bool, true, false, refl, sym, subst, ap, ◌∙◌, Some, None, arith, eqb-true}
 use Rattle.std.specs.Prelude.{◌+◌, ◌==◌}
 use Rattle.std.proofs.lemmas.Bool.{eqb-false}
 use Rattle.nm_rules.specs.Seen.{Seen}
-use Rattle.nm_slot.specs.Moves.{Move, Fate, no_move}
-use Rattle.nm_slot.specs.Moves.Fate.{NotBegun, UnderWay, GivenUp, Handed, Done}
+use Rattle.nm_slot.specs.Moves.{Move, no_move}
+use Rattle.nm_slot.specs.Moves.Fate.{GivenUp, Handed, Done}
 use Rattle.nm_slot.specs.Phases.{Phase, source_of}
 use Rattle.nm_slot.specs.Phases.Phase.{At, Closing, Frozen, Passing}
 use Rattle.nm_slot.specs.SlotNow.{Offer, Own}
-use Rattle.nm_slot.proofs.Facts.{NumbersAgree, PreparedIsHeld, IsFor, IsRemembered, SettledIsCommitted, Agreed, is_going, new_move, offer_now, IsClosing, IsFrozen, IsPassing, OffersStand, Facts}
-use Rattle.nm_slot.proofs.Agreed.{began, IsFurther, IsLater, agreed_further, agreed_later}
-use Rattle.nm_slot.proofs.StepsHeld.{IsKept, offers_kept, some_same}
+use Rattle.nm_slot.proofs.Facts.{IsFor, IsRemembered, SettledIsCommitted, Agreed, is_going, new_move, offer_now, IsFrozen, IsPassing, Facts}
+use Rattle.nm_slot.proofs.Agreed.{agreed_further, agreed_later}
+use Rattle.nm_slot.proofs.StepsHeld.{offers_kept, some_same}
 use Rattle.nm_slot.proofs.Updates.{put, by_place, put_there, put_elsewhere}
 
 -- ---- what doesn't concern moves
@@ -126,6 +126,7 @@ frozen s dest number begins move own t facts = record {
   offers = record {
     latest = facts.offers.latest;
     apart = facts.offers.apart;
+    comes_from = ap (λ (m : Move). m.source) facts.offers.fresh;
     goes_to = ap (λ (m : Move). m.dest) facts.offers.fresh;
     going = ap (λ (m : Move). m.fate) facts.offers.fresh;
     offered = λ its e. let none : (move number).offer ≡ None = ap (λ (m : Move). m.offer) facts.offers.fresh in cc;
@@ -153,6 +154,7 @@ imaged s dest number begins move own t facts = record {
   offers = subst (λ m. IsFrozen begins s dest number m (own dest).held (offer_now number t (own s))) (sym (put_there number offers move)) (record {
     latest = facts.offers.latest;
     apart = facts.offers.apart;
+    comes_from = facts.offers.comes_from;
     goes_to = facts.offers.goes_to;
     going = facts.offers.going;
     offered = λ its e. sym (some_same (offer_now number t (own s)) its e);
@@ -205,5 +207,5 @@ given_up s number begins move own t latest agreed = record {
     not_done = λ e. cc;
   }) agreed;
   offers = subst (λ n. is_going (put number (λ k. given_up_move (move k)) move n).fate ≡ false) latest
-  (ap (λ (m : Move). is_going m.fate) (put_there number (λ k. given_up_move (move k)) move));
+      (ap (λ (m : Move). is_going m.fate) (put_there number (λ k. given_up_move (move k)) move));
 }

@@ -6,4 +6,5 @@ pub mod Laws
 pub mod Moves
 pub mod Passes
 pub mod Phases
+pub mod Runs
 pub mod SlotNow
