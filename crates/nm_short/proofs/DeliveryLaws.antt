@@ -18,11 +18,12 @@ use Rattle.nm_slot.specs.SlotNow.{Offer, Own, SlotView, SlotStep, HandedOver}
 use Rattle.nm_slot.specs.SlotNow.HandedOver.{Committed, Again, Dead}
 use Rattle.nm_slot.specs.SlotNow.SlotStep.{Accepting, Committing, Installing}
 use Rattle.nm_slot.proofs.Facts.{Facts}
+use Rattle.nm_slot.proofs.HistoryFacts.{begins_now, facts_of}
+use Rattle.nm_slot.proofs.HistoryLaws.{is_whole}
 use Rattle.nm_short.specs.ShortRun.{FileNow, Went, at_server, did, source, phase_of_file, after_accept, commits_at, no_packet, delivers_offer, commits, delivers_handed, settles, goes_well}
 use Rattle.nm_short.specs.Tables.{FileTables, SentTo, HandedTo, WentTo, no_part, slot_in, stepped, hands, commits_in, accept_to, nothing_sent, delivers_to, commits_to, had_by, settles_by, settles_to, goes_well_to}
 use Rattle.nm_short.proofs.HistoryFacts.{also_of}
 use Rattle.nm_short.proofs.OrderLaws.{IsWent, well_same, ends_same, kept_inside}
-use Rattle.nm_short.proofs.SlotLaws.{facts_of, nothing_lost}
 use Rattle.nm_short.proofs.Standing.{Stands, Comes, IsKeptOutside, moment, sent_as, handed_as, with_sent, offer_stays, handed_stays, plain_stands, stands_by, source_stays, slot_outside, goes_same, offered_began}
 
 -- ---- the source commits
@@ -128,10 +129,10 @@ install_arrives : (f : FileNow) (d number : ℕ) → Comes f d (Installing numbe
     → source (did f d (Installing number install.Now)) ≡ d
 unfolding phase_now
 install_arrives f d number comes history =
-    let whole = nothing_lost f.home f.moments d number (comes, history) in
+    let whole = is_whole f.home f.moments d number (comes, history) in
     let has = facts_of f.home f.moments history in
-    let here : Facts (Passing whole.source d number) has.begins (move_now f.moments) (own_now f.home.first f.moments) (tables_now f.home f.moments) =
-        subst (λ p. Facts p has.begins (move_now f.moments) (own_now f.home.first f.moments) (tables_now f.home f.moments)) whole.handed has.facts in
+    let here : Facts (Passing whole.source d number) (begins_now f.moments) (move_now f.moments) (own_now f.home.first f.moments) (tables_now f.home f.moments) =
+        subst (λ p. Facts p (begins_now f.moments) (move_now f.moments) (own_now f.home.first f.moments) (tables_now f.home f.moments)) whole.handed has in
     ap (λ p. source_of (phase_after p (moment d (Installing number install.Now)))) whole.handed
     ∙ arrives whole.source here.offers.apart
   where

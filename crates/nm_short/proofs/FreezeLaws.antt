@@ -21,11 +21,11 @@ use Rattle.nm_slot.specs.SlotNow.Stage.{Away, Here}
 use Rattle.nm_slot.specs.SlotNow.SlotStep.{Freezing, Imaging}
 use Rattle.nm_slot.proofs.Facts.{Facts}
 use Rattle.nm_slot.proofs.Inversions.{is_source}
+use Rattle.nm_slot.proofs.HistoryFacts.{begins_now, facts_of}
 use Rattle.nm_short.specs.ShortRun.{FileNow, Went, at_server, did, source, phase_of_file, goes_well, after_freeze, freezes, offers_at}
 use Rattle.nm_short.specs.Tables.{FileTables, SentTo, WentTo, no_part, slot_in, stepped, sends, offers_in, goes_well_to, freeze_to, freezes_to}
 use Rattle.nm_short.proofs.OrderLaws.{IsWent, well_same, ends_same, kept_inside, source_within}
 use Rattle.nm_short.proofs.HistoryFacts.{by_number}
-use Rattle.nm_short.proofs.SlotLaws.{facts_of}
 use Rattle.nm_short.proofs.Standing.{Stands, Comes, moment, sent_as, handed_as, with_sent, offer_stays, handed_stays, plain_stands, stands_by, source_stays}
 
 sends_none : (s : ℕ) (phase : SlotPhase) (before : Option SentTo) → sends s phase None before ≡ before
@@ -66,9 +66,9 @@ unfolding image_answer phase_of latest_offer slot_now
 image_sent n f t stands =
     let s : ℕ = source f in
     let has = facts_of f.home f.moments stands.history in
-    image_sends (phase_of_file f) has.begins (move_now f.moments) (move_now (offers_at f s).moments) (own_now f.home.first f.moments) (tables_now f.home f.moments) s
+    image_sends (phase_of_file f) (begins_now f.moments) (move_now f.moments) (move_now (offers_at f s).moments) (own_now f.home.first f.moments) (tables_now f.home f.moments) s
     (own_now f.home.first f.moments s) (column (phase_of_file f) (tables_now f.home f.moments) s) t.offer (latest_offer f.moments)
-    refl has.facts (image_dest s (image_answer (at_server f s)) f)
+    refl has (image_dest s (image_answer (at_server f s)) f)
     (offer_stays n f t s (Imaging (image_answer (at_server f s))) stands (record { answered = refl; delivered = tt }))
 
 -- an offer leaves each slot as it was

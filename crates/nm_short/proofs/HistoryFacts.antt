@@ -29,7 +29,7 @@ use Rattle.nm_slot.specs.SlotNow.SlotStep.{Entering, Leaving, Applying, Beginnin
 use Rattle.nm_slot.proofs.Facts.{Facts, new_move}
 use Rattle.nm_slot.proofs.Agreed.{began}
 use Rattle.nm_slot.proofs.Inversions.{is_source}
-use Rattle.nm_short.proofs.SlotLaws.{HasFacts, facts_of}
+use Rattle.nm_slot.proofs.HistoryFacts.{begins_now, facts_of}
 
 -- ---- what is said
 
@@ -755,6 +755,6 @@ also_of home [] it = record {
   was_sent = λ x e. cc;
 }
 also_of home (x ∷ earlier) it =
-    also_next home.fs (phase_now home.first earlier) (facts_of home earlier it.1).begins (own_now home.first earlier) (move_now earlier)
+    also_next home.fs (phase_now home.first earlier) (begins_now earlier) (own_now home.first earlier) (move_now earlier)
     (latest_offer earlier) (latest_handed earlier) (tables_now home earlier) (passes_now earlier x.server) x.server x.step
-    it.0.answered it.0.delivered (facts_of home earlier it.1).facts (also_of home earlier it.1)
+    it.0.answered it.0.delivered (facts_of home earlier it.1) (also_of home earlier it.1)

@@ -1,5 +1,4 @@
 pub mod HistoryFacts
-pub mod SlotLaws
 pub mod Standing
 pub mod PhaseLaws
 pub mod OrderLaws

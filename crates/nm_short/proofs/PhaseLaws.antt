@@ -13,10 +13,10 @@ use Rattle.nm_slot.specs.Phases.Phase.{At, Closing, Frozen, Passing}
 use Rattle.nm_slot.specs.SlotNow.{Offer, Left, Own, SlotView, Stage, phase_of, phase_away, phase_at}
 use Rattle.nm_slot.specs.SlotNow.Stage.{Away, Here}
 use Rattle.nm_slot.proofs.Facts.{Facts, OffersStand}
+use Rattle.nm_slot.proofs.HistoryFacts.{begins_now, facts_of}
 use Rattle.nm_short.specs.ShortRun.{FileNow, at_server, source, phase_of_file}
 use Rattle.nm_short.specs.Tables.{FileTables, phase_by, phase_in, slot_in, shower, shown_table, table_of, offer_table}
 use Rattle.nm_short.proofs.HistoryFacts.{LeftStands, also_of, slot_by, went_to}
-use Rattle.nm_short.proofs.SlotLaws.{facts_of}
 use Rattle.nm_short.proofs.Standing.{Stands}
 
 -- ---- the phase
@@ -46,7 +46,7 @@ phase_same n f t stands =
     let also = also_of f.home f.moments stands.history in
     ap (λ s. phase_by s (phase_of (slot_in t s)) (slot_in t s).own.known) stands.at
     ∙ ap (λ (v : SlotView). phase_by (source f) (phase_of v) v.own.known) (stands.slots (source f))
-    ∙ phase_told f.home.fs has.begins (phase_of_file f) (move_now f.moments) (own_now f.home.first f.moments) (tables_now f.home f.moments) has.facts also.free also.left
+    ∙ phase_told f.home.fs (begins_now f.moments) (phase_of_file f) (move_now f.moments) (own_now f.home.first f.moments) (tables_now f.home f.moments) has also.free also.left
 
 -- ---- the table
 
@@ -85,4 +85,4 @@ table_same n f t stands =
     ∙ ap (λ s. unwrap_or (table_of (slot_in t (shows s (phase_of (slot_in t s))))) []) stands.at
     ∙ ap (λ (v : SlotView). unwrap_or (table_of (slot_in t (shows (source f) (phase_of v)))) []) (stands.slots (source f))
     ∙ ap (λ (v : SlotView). unwrap_or (table_of v) []) (stands.slots (shows (source f) (phase_of (at_server f (source f)))))
-    ∙ table_told f.home.fs has.begins (phase_of_file f) (move_now f.moments) (own_now f.home.first f.moments) (tables_now f.home f.moments) has.facts also.free also.left
+    ∙ table_told f.home.fs (begins_now f.moments) (phase_of_file f) (move_now f.moments) (own_now f.home.first f.moments) (tables_now f.home f.moments) has also.free also.left

@@ -16,10 +16,11 @@ use Rattle.nm_slot.specs.Phases.{Phase, Moment, phase_now, source_of}
 use Rattle.nm_slot.specs.SlotNow.{Offer, SlotView, HandedOver, SlotStep}
 use Rattle.nm_slot.specs.SlotNow.HandedOver.{Committed, Again, Dead}
 use Rattle.nm_slot.specs.SlotNow.SlotStep.{Imaging, Committing, Installing}
+use Rattle.nm_slot.proofs.HistoryFacts.{begins_now, facts_of}
+use Rattle.nm_slot.proofs.SlotsFollow.{own_slot, other_slots}
 use Rattle.nm_short.specs.ShortRun.{FileNow, at_server, did, source}
 use Rattle.nm_short.specs.Tables.{FileTables, SentTo, HandedTo, slot_in, stepped, no_part}
 use Rattle.nm_short.proofs.HistoryFacts.{AlsoOf, also_of, dest_kept, dest_within, GoesBelow, same_source, is_installing}
-use Rattle.nm_short.proofs.SlotLaws.{facts_of, slot_own, slot_others}
 
 -- ---- what stands for what
 
@@ -79,8 +80,8 @@ slots_follow : (n : ℕ) (f : FileNow) (t : FileTables) (s : ℕ) (step : SlotSt
     → (r : ℕ) → slot_in (stepped t s step) r ≡ at_server (did f s step) r
 slots_follow n f t s step stands comes kept r = ⊎_elim
     (λ (e : r ≡ s). subst (λ q. slot_in (stepped t s step) q ≡ at_server (did f s step) q) (sym e)
-        (slot_there t s step kept ∙ ap (λ v. slot_after v step) (stands.slots s) ∙ slot_own f.home f.moments (moment s step) (comes, stands.history)))
-    (λ (ne : r ≢ s). slot_elsewhere t s r step ne ∙ stands.slots r ∙ sym (slot_others f.home f.moments (moment s step) (comes, stands.history) r ne))
+        (slot_there t s step kept ∙ ap (λ v. slot_after v step) (stands.slots s) ∙ own_slot f.home f.moments (moment s step) (comes, stands.history)))
+    (λ (ne : r ≢ s). slot_elsewhere t s r step ne ∙ stands.slots r ∙ sym (other_slots f.home f.moments (moment s step) (comes, stands.history) r ne))
     (cases_eq r s)
 
 -- ---- what was sent
@@ -107,8 +108,8 @@ pub goes_same : (n : ℕ) (f : FileNow) (t : FileTables) (s : ℕ) (step : SlotS
 unfolding move_now slot_now
 goes_same n f t s step stands comes =
     let has = facts_of f.home f.moments stands.history in
-    dest_kept f.home.fs (phase_now f.home.first f.moments) has.begins (move_now f.moments) (own_now f.home.first f.moments) (tables_now f.home f.moments) s step
-    comes.answered has.facts
+    dest_kept f.home.fs (phase_now f.home.first f.moments) (begins_now f.moments) (move_now f.moments) (own_now f.home.first f.moments) (tables_now f.home f.moments) s step
+    comes.answered has
 
 pub offer_stays : (n : ℕ) (f : FileNow) (t : FileTables) (s : ℕ) (step : SlotStep) → Stands n f t → Comes f s step
     → t.offer ≡ option_map (sent_as (move_now (did f s step).moments)) (latest_offer f.moments)
