@@ -1,28 +1,22 @@
 -- What a client does is the same over the tables of a file system as over its steps.
-use Rattle.std.proofs.Common.{◌≡◌, ◌≢◌, ◌<◌, ◌≤◌, ◌+◌, ◌^◌, ℕ, zero, suc, Bool, true, false, cond, List, [], ◌∷◌, length, Option, Some, None, refl, sym, subst, ap, ◌∙◌, arith, eq-eqb, inl, inr, ◌⊎◌, ⊎_elim}
-use Rattle.std.specs.Prelude.{◌==◌}
-use Rattle.std.specs.List.{list_any}
+use Rattle.std.proofs.Common.{◌≡◌, ◌≢◌, ◌<◌, ◌≤◌, ℕ, zero, suc, true, Option, Some, None, refl, sym, subst, ap, ◌∙◌, arith, eq-eqb, ⊎_elim}
 use Rattle.std.proofs.lemmas.Bool.{cases_lt}
 use Rattle.nm_rules.specs.declared.action.Action.{Action}
 use Rattle.nm_rules.specs.declared.calls.Call.{Call}
-use Rattle.nm_rules.specs.declared.calls.Reply.{Reply}
 use Rattle.nm_rules.specs.declared.calls.Verdict.TheVariants.{Pass}
-use Rattle.nm_script.specs.declared.report.Told.{Told}
 use Rattle.nm_script.specs.declared.report.Told.TheVariants as told
 use Rattle.nm_slot.specs.declared.answers.Answer.{Answer}
-use Rattle.nm_slot.specs.declared.answers.Answer.TheVariants as answer
 use Rattle.nm_slot.specs.declared.answers.Enter.{Enter}
 use Rattle.nm_slot.specs.declared.answers.Enter.TheVariants as enter
 use Rattle.nm_slot.specs.Answers.{enter_answer, apply_answer}
 use Rattle.nm_slot.specs.Changes.{slot_after}
 use Rattle.nm_slot.specs.History.{passes_now, is_out}
-use Rattle.nm_slot.specs.SlotNow.{SlotView, SlotStep}
 use Rattle.nm_slot.specs.SlotNow.SlotStep.{Entering, Leaving, Applying}
 use Rattle.nm_short.specs.Known.{Known, learned, put_down, sent_to, place_of}
 use Rattle.nm_short.specs.ShortRun.{FileNow, Tried, Knocked, at_server, did, knocks, reply_of, calls_at, at_door, tries, requests_limit}
 use Rattle.nm_short.specs.Tables.{FileTables, TriedTo, KnockedTo, no_part, slot_in, stepped, knocks_to, calls_to, door_to, tries_to}
 use Rattle.nm_short.proofs.OrderLaws.{kept_inside}
-use Rattle.nm_short.proofs.Standing.{Stands, Comes, IsKeptOutside, moment, plain_stands, slot_outside}
+use Rattle.nm_short.proofs.Standing.{Stands, IsKeptOutside, plain_stands, slot_outside}
 
 -- the same is told and learned, and what is left stands for the steps
 pub record IsTried (n : ℕ) (tried : Tried) (to : TriedTo) : Type 0 where

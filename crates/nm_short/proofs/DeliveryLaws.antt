@@ -1,7 +1,6 @@
 -- What servers send one another is delivered alike over tables and over steps: `commit` and `settle`.
-use Rattle.std.proofs.Common.{◌≡◌, ◌≢◌, ◌<◌, ◌≤◌, ℕ, Bool, true, false, cond, List, [], ◌∷◌, length, Option, Some, None, refl, sym, subst, ap, ◌∙◌, arith, eq-eqb, ne_eqb}
-use Rattle.std.specs.Prelude.{◌==◌, ◌&&◌, option_map}
-use Rattle.nm_rules.specs.Parties.{Party}
+use Rattle.std.proofs.Common.{◌≡◌, ◌≢◌, ◌<◌, ℕ, true, cond, Option, Some, None, refl, sym, subst, ap, ◌∙◌, eq-eqb, ne_eqb}
+use Rattle.std.specs.Prelude.{option_map}
 use Rattle.nm_script.specs.declared.script.Head.{Head}
 use Rattle.nm_slot.specs.declared.answers.Accept.{Accept}
 use Rattle.nm_slot.specs.declared.answers.Accept.TheVariants as accept
@@ -9,19 +8,18 @@ use Rattle.nm_slot.specs.declared.answers.Install.{Install}
 use Rattle.nm_slot.specs.declared.answers.Install.TheVariants as install
 use Rattle.nm_slot.specs.Answers.{accept_answer, commit_answer, install_answer}
 use Rattle.nm_slot.specs.Changes.{slot_after}
-use Rattle.nm_slot.specs.History.{IsHistory, own_now, tables_now, slot_now}
-use Rattle.nm_slot.specs.Laws.{IsWhole}
+use Rattle.nm_slot.specs.History.{IsHistory, own_now, tables_now}
 use Rattle.nm_slot.specs.Moves.{Move, Sent, no_move, move_now, latest_offer, latest_handed, told_by}
-use Rattle.nm_slot.specs.Phases.{Phase, source_of, phase_after, phase_now, after_at_source, after_elsewhere}
-use Rattle.nm_slot.specs.Phases.Phase.{At, Passing}
-use Rattle.nm_slot.specs.SlotNow.{Offer, Own, SlotView, SlotStep, HandedOver}
+use Rattle.nm_slot.specs.Phases.{source_of, phase_after, phase_now}
+use Rattle.nm_slot.specs.Phases.Phase.{Passing}
+use Rattle.nm_slot.specs.SlotNow.{Offer, HandedOver}
 use Rattle.nm_slot.specs.SlotNow.HandedOver.{Committed, Again, Dead}
 use Rattle.nm_slot.specs.SlotNow.SlotStep.{Accepting, Committing, Installing}
 use Rattle.nm_slot.proofs.Facts.{Facts}
 use Rattle.nm_slot.proofs.HistoryFacts.{begins_now, facts_of}
 use Rattle.nm_slot.proofs.HistoryLaws.{is_whole}
-use Rattle.nm_short.specs.ShortRun.{FileNow, Went, at_server, did, source, phase_of_file, after_accept, commits_at, no_packet, delivers_offer, commits, delivers_handed, settles, goes_well}
-use Rattle.nm_short.specs.Tables.{FileTables, SentTo, HandedTo, WentTo, no_part, slot_in, stepped, hands, commits_in, accept_to, nothing_sent, delivers_to, commits_to, had_by, settles_by, settles_to, goes_well_to}
+use Rattle.nm_short.specs.ShortRun.{FileNow, at_server, did, source, after_accept, commits_at, delivers_offer, commits, delivers_handed, settles}
+use Rattle.nm_short.specs.Tables.{FileTables, SentTo, HandedTo, no_part, slot_in, stepped, hands, commits_in, accept_to, delivers_to, commits_to, had_by, settles_by, settles_to, goes_well_to}
 use Rattle.nm_short.proofs.HistoryFacts.{also_of}
 use Rattle.nm_short.proofs.OrderLaws.{IsWent, well_same, ends_same, kept_inside}
 use Rattle.nm_short.proofs.Standing.{Stands, Comes, IsKeptOutside, moment, sent_as, handed_as, with_sent, offer_stays, handed_stays, plain_stands, stands_by, source_stays, slot_outside, goes_same, offered_began}

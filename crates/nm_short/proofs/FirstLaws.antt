@@ -1,7 +1,6 @@
 -- At first the tables stand for no steps.
-use Rattle.std.proofs.Common.{◌≡◌, ◌≢◌, ◌<◌, ◌≤◌, ◌+◌, ℕ, Bool, true, false, cond, List, [], ◌∷◌, length, get_or, set, replicate, Option, Some, None, refl, sym, subst, ap, ◌∙◌, arith, eq-eqb, ne_eqb, inl, inr, ◌⊎◌, ⊎_elim}
-use Rattle.std.specs.Prelude.{◌==◌}
-use Rattle.std.specs.List.{All, AllZip}
+use Rattle.std.proofs.Common.{◌≡◌, ◌≢◌, ◌<◌, ◌≤◌, ◌+◌, ℕ, false, List, [], ◌∷◌, length, get_or, replicate, None, refl, sym, subst, ◌∙◌, arith, eq-eqb, ne_eqb, ⊎_elim}
+use Rattle.std.specs.List.{All}
 use Rattle.std.proofs.lemmas.Bool.{cases_eq, cases_lt}
 use Rattle.std.proofs.lemmas.List.{get_or-set_same, get_or-set_other, get_or-replicate, get_or_past, length-set, length-replicate}
 use Rattle.std.proofs.lemmas.List.Elements.{All-head, All-tail}
@@ -10,12 +9,11 @@ use Rattle.nm_rules.specs.Seen.{seen}
 use Rattle.nm_script.specs.Grammar.{IsHead}
 use Rattle.nm_script.specs.declared.script.FsRow.{FsRow}
 use Rattle.nm_script.specs.declared.script.Head.{Head}
-use Rattle.nm_slot.specs.History.{Home, slot_now, own_now, entries_now}
+use Rattle.nm_slot.specs.History.{slot_now, own_now, entries_now}
 use Rattle.nm_slot.specs.Moves.{move_now, latest_offer, latest_handed}
 use Rattle.nm_slot.specs.Phases.{phase_now}
-use Rattle.nm_slot.specs.SlotNow.{SlotView}
 use Rattle.nm_short.specs.Known.{knows_nothing}
-use Rattle.nm_short.specs.ShortRun.{FileNow, RunNow, at_server, files_from}
+use Rattle.nm_short.specs.ShortRun.{FileNow, at_server, files_from}
 use Rattle.nm_short.specs.Tables.{FileTables, slot_in, no_part, first_slot, first_slots, tables_at_first, tables_of_head}
 use Rattle.nm_short.proofs.LineLaws.{AllStand, RunStands}
 use Rattle.nm_short.proofs.Standing.{Stands}

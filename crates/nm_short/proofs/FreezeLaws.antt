@@ -1,6 +1,6 @@
 -- A freeze is the same over tables as over steps: the offer is sent to where its move goes.
-use Rattle.std.proofs.Common.{◌≡◌, ◌≢◌, ◌<◌, ◌≤◌, ℕ, Bool, true, false, cond, List, [], ◌∷◌, length, get_or, set, Option, Some, None, refl, sym, subst, ap, ◌∙◌, arith}
-use Rattle.std.specs.Prelude.{option_map, unwrap_or, slice_get, slice_set}
+use Rattle.std.proofs.Common.{◌≡◌, ℕ, Option, Some, None, refl, sym, subst, ap, ◌∙◌}
+use Rattle.std.specs.Prelude.{option_map, slice_set}
 use Rattle.std.proofs.lemmas.List.{set-get_or}
 use Rattle.std.proofs.lemmas.Option.{unwrap_or-slice_get}
 use Rattle.nm_rules.specs.Seen.{Seen}
@@ -13,20 +13,20 @@ use Rattle.nm_slot.specs.Answers.{freeze_answer, image_answer, offered}
 use Rattle.nm_slot.specs.Changes.{slot_after}
 use Rattle.nm_slot.specs.History.{own_now, tables_now, slot_now}
 use Rattle.nm_slot.specs.Moves.{Move, Sent, move_now, sent_by, latest_offer, latest_handed}
-use Rattle.nm_slot.specs.Phases.{Phase, source_of, column, phase_now}
+use Rattle.nm_slot.specs.Phases.{Phase, column}
 use Rattle.nm_slot.specs.Phases.Phase.{Frozen}
-use Rattle.nm_slot.specs.SlotNow.{Doing, Stage, Offer, Own, SlotView, SlotStep, phase_of, phase_at, phase_away}
+use Rattle.nm_slot.specs.SlotNow.{Stage, Offer, Own, SlotView, phase_of, phase_at, phase_away}
 use Rattle.nm_slot.specs.SlotNow.Doing.{Serves, Closes, Froze}
 use Rattle.nm_slot.specs.SlotNow.Stage.{Away, Here}
 use Rattle.nm_slot.specs.SlotNow.SlotStep.{Freezing, Imaging}
 use Rattle.nm_slot.proofs.Facts.{Facts}
 use Rattle.nm_slot.proofs.Inversions.{is_source}
 use Rattle.nm_slot.proofs.HistoryFacts.{begins_now, facts_of}
-use Rattle.nm_short.specs.ShortRun.{FileNow, Went, at_server, did, source, phase_of_file, goes_well, after_freeze, freezes, offers_at}
-use Rattle.nm_short.specs.Tables.{FileTables, SentTo, WentTo, no_part, slot_in, stepped, sends, offers_in, goes_well_to, freeze_to, freezes_to}
+use Rattle.nm_short.specs.ShortRun.{FileNow, at_server, did, source, phase_of_file, goes_well, after_freeze, freezes, offers_at}
+use Rattle.nm_short.specs.Tables.{FileTables, SentTo, no_part, slot_in, stepped, sends, offers_in, goes_well_to, freeze_to, freezes_to}
 use Rattle.nm_short.proofs.OrderLaws.{IsWent, well_same, ends_same, kept_inside, source_within}
-use Rattle.nm_short.proofs.HistoryFacts.{by_number}
-use Rattle.nm_short.proofs.Standing.{Stands, Comes, moment, sent_as, handed_as, with_sent, offer_stays, handed_stays, plain_stands, stands_by, source_stays}
+use Rattle.nm_short.proofs.StepWords.{by_number}
+use Rattle.nm_short.proofs.Standing.{Stands, Comes, sent_as, handed_as, with_sent, offer_stays, handed_stays, plain_stands, stands_by, source_stays}
 
 sends_none : (s : ℕ) (phase : SlotPhase) (before : Option SentTo) → sends s phase None before ≡ before
 sends_none s slot_phase.Never before = refl

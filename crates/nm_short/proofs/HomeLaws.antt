@@ -1,5 +1,5 @@
 -- A file system keeps its number and its first server over the run.
-use Rattle.std.proofs.Common.{◌≡◌, ◌+◌, ℕ, zero, suc, Bool, true, false, cond, List, [], ◌∷◌, ◌++◌, map, set, Option, Some, None, refl, ap, sym, ◌∙◌, arith}
+use Rattle.std.proofs.Common.{◌≡◌, ◌+◌, ℕ, zero, suc, Bool, true, false, cond, List, [], ◌∷◌, ◌++◌, map, Option, Some, None, refl, ap, sym, ◌∙◌, arith}
 use Rattle.std.specs.Prelude.{slice_get, slice_set}
 use Rattle.nm_rules.specs.Actions.{fs_of}
 use Rattle.nm_rules.specs.declared.action.Action.{Action}
@@ -23,7 +23,7 @@ use Rattle.nm_slot.specs.Moves.{Sent, move_now, latest_offer, latest_handed}
 use Rattle.nm_slot.specs.SlotNow.SlotStep.{Beginning, Freezing, Accepting}
 use Rattle.nm_short.specs.Known.{Known, call_of, hand_of, place_of, sent_to}
 use Rattle.nm_short.specs.RunFacts.{home_of, run_after}
-use Rattle.nm_short.specs.ShortRun.{FileNow, Went, Tried, Knocked, RunNow, Order, at_server, did, source, after_begin, begins, after_freeze, freezes, abandons, after_accept, delivers_offer, commits, delivers_handed, settles, and_then, shifts, knocks, at_door, calls_at, tries, requests_limit, ran_call, acts, starts, goes_on, ran_do, ran_finish, ordered, ran_order, gives_order, run_line, files_from}
+use Rattle.nm_short.specs.ShortRun.{FileNow, Went, Knocked, RunNow, Order, at_server, did, source, after_begin, begins, after_freeze, freezes, abandons, after_accept, delivers_offer, commits, delivers_handed, settles, and_then, shifts, knocks, at_door, calls_at, tries, requests_limit, ran_call, acts, starts, goes_on, ran_do, ran_finish, ordered, ran_order, run_line, files_from}
 use Rattle.nm_short.specs.ShortRun.Order.{ToMove, ToFreeze, ToAbandon, ToCommit, ToSettle, ToShift, ToShow}
 use Rattle.nm_short.proofs.ClientLaws.{knock_of}
 

@@ -1,20 +1,19 @@
 -- Each line is the same over tables as over steps.
-use Rattle.std.proofs.Common.{◌≡◌, ◌<◌, ℕ, zero, suc, List, [], ◌∷◌, length, set, Option, Some, None, refl, sym, subst, ap, ◌∙◌}
+use Rattle.std.proofs.Common.{◌≡◌, ℕ, zero, suc, List, [], ◌∷◌, length, Option, Some, None, refl, sym, subst, ap}
 use Rattle.std.specs.Prelude.{slice_get, slice_set}
 use Rattle.std.specs.List.{AllZip}
 use Rattle.nm_rules.specs.Actions.{fs_of}
 use Rattle.nm_rules.specs.declared.action.Action.{Action}
 use Rattle.nm_rules.specs.declared.calls.Call.{Call}
 use Rattle.nm_script.specs.Grammar.{IsRun}
-use Rattle.nm_script.specs.declared.report.ReportRow.{ReportRow}
 use Rattle.nm_script.specs.declared.script.ClientRow.{ClientRow}
 use Rattle.nm_script.specs.declared.script.Head.{Head}
 use Rattle.nm_script.specs.declared.script.Line.{Line}
 use Rattle.nm_script.specs.declared.script.Line.TheVariants.{Do, Finish, Move, Freeze, Abandon, Commit, Settle, Shift, Show}
 use Rattle.nm_short.specs.Known.{Known, call_of, hand_of}
-use Rattle.nm_short.specs.ShortRun.{FileNow, Tried, Went, RunNow, Ran, Order, tries, ordered, outcome, ran_call, acts, starts, goes_on, ran_do, ran_finish, ran_order, gives_order, run_line}
+use Rattle.nm_short.specs.ShortRun.{FileNow, RunNow, Ran, Order, tries, ordered, outcome, ran_call, acts, starts, goes_on, ran_do, ran_finish, ran_order, gives_order, run_line}
 use Rattle.nm_short.specs.ShortRun.Order.{ToMove, ToFreeze, ToAbandon, ToCommit, ToSettle, ToShift, ToShow}
-use Rattle.nm_short.specs.Tables.{FileTables, TriedTo, WentTo, TablesNow, Step, tries_to, ordered_to, told_call, told_act, told_start, told_go_on, told_do, told_finish, told_order, told_ordered, told_line}
+use Rattle.nm_short.specs.Tables.{FileTables, TablesNow, Step, tries_to, ordered_to, told_call, told_act, told_start, told_go_on, told_do, told_finish, told_order, told_ordered, told_line}
 use Rattle.nm_short.proofs.ClientLaws.{IsTried, tries_same}
 use Rattle.nm_short.proofs.OrderLaws.{IsWent}
 use Rattle.nm_short.proofs.OrderedLaws.{IsOrder, ordered_same}

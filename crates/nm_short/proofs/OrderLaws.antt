@@ -1,21 +1,18 @@
 -- What an operator has done with a file system is the same over its tables as over its steps.
-use Rattle.std.proofs.Common.{◌≡◌, ◌≢◌, ◌<◌, ◌≤◌, ℕ, Bool, true, false, cond, List, [], ◌∷◌, ◌++◌, length, Option, Some, None, refl, sym, subst, ap, ◌∙◌, arith, eq-eqb}
-use Rattle.std.specs.Prelude.{◌==◌, option_map, if◌then◌else◌}
+use Rattle.std.proofs.Common.{◌≡◌, ◌<◌, ℕ, [], ◌∷◌, refl, sym, subst, ap, ◌∙◌, arith}
 use Rattle.nm_script.specs.declared.report.MoveTold.{MoveTold}
-use Rattle.nm_script.specs.declared.report.ReportRow.{ReportRow}
 use Rattle.nm_script.specs.declared.script.Head.{Head}
 use Rattle.nm_slot.specs.declared.answers.Abandon.{Abandon}
 use Rattle.nm_slot.specs.declared.answers.Begin.{Begin}
 use Rattle.nm_slot.specs.declared.answers.Begin.TheVariants as begin
 use Rattle.nm_slot.specs.Answers.{begin_answer, abandon_answer}
-use Rattle.nm_slot.specs.SlotNow.{SlotView, SlotStep}
+use Rattle.nm_slot.specs.SlotNow.{SlotStep}
 use Rattle.nm_slot.specs.SlotNow.SlotStep.{Beginning, Abandoning}
-use Rattle.nm_slot.specs.Phases.{Phase}
-use Rattle.nm_short.specs.ShortRun.{FileNow, Went, at_server, did, source, phase_of_file, phase_row, move_row, goes_well, ends_with, after_begin, begins, abandon_told, abandons}
+use Rattle.nm_short.specs.ShortRun.{FileNow, Went, at_server, did, source, phase_row, move_row, goes_well, ends_with, after_begin, begins, abandon_told, abandons}
 use Rattle.nm_short.specs.Tables.{FileTables, WentTo, phase_in, slot_in, stepped, goes_well_to, ends_in, begin_to, begins_to, abandons_to}
-use Rattle.nm_short.proofs.HistoryFacts.{GoesBelow}
+use Rattle.nm_short.proofs.MovesKept.{GoesBelow}
 use Rattle.nm_short.proofs.PhaseLaws.{phase_same}
-use Rattle.nm_short.proofs.Standing.{Stands, Comes, IsKeptOutside, plain_stands}
+use Rattle.nm_short.proofs.Standing.{Stands, IsKeptOutside, plain_stands}
 
 -- the same is printed, what is left stands for the steps, and both came to what they were for or neither
 pub record IsWent (n : ℕ) (went : Went) (to : WentTo) : Type 0 where

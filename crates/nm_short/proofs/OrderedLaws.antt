@@ -1,12 +1,9 @@
 -- Every line of an operator is the same over tables as over steps.
 use Rattle.std.proofs.Common.{◌≡◌, ◌<◌, ℕ, Bool, true, false, cond, List, [], ◌∷◌, ◌++◌, refl, sym, subst, ap, ◌∙◌}
-use Rattle.std.specs.Prelude.{if◌then◌else◌}
-use Rattle.nm_rules.specs.Held.{held_table}
 use Rattle.nm_rules.specs.declared.table.HeldRow.{HeldRow}
 use Rattle.nm_script.specs.declared.script.Head.{Head}
 use Rattle.nm_script.specs.declared.report.ReportRow.{ReportRow}
 use Rattle.nm_script.specs.declared.report.ReportRow.TheVariants.{Held}
-use Rattle.nm_slot.specs.History.{tables_now}
 use Rattle.nm_slot.specs.Phases.{Phase}
 use Rattle.nm_short.specs.ShortRun.{FileNow, Went, Order, fs_name, phase_shown, phase_of_file, and_then, begins, freezes, commits, settles, shifts, held_row, ordered}
 use Rattle.nm_short.specs.ShortRun.Order.{ToMove, ToFreeze, ToAbandon, ToCommit, ToSettle, ToShift, ToShow}

@@ -1,22 +1,21 @@
 -- The phase and the table that are read off what the servers have.
-use Rattle.std.proofs.Common.{◌≡◌, ◌≢◌, ℕ, Bool, true, false, cond, List, [], ◌∷◌, Option, Some, None, refl, sym, subst, ap, ◌∙◌, eq-eqb}
-use Rattle.std.specs.Prelude.{◌==◌, unwrap_or}
+use Rattle.std.proofs.Common.{◌≡◌, ℕ, [], Option, Some, None, refl, sym, ap, ◌∙◌, eq-eqb}
+use Rattle.std.specs.Prelude.{unwrap_or}
 use Rattle.nm_rules.specs.Held.{held_table}
 use Rattle.nm_rules.specs.Seen.{Seen}
-use Rattle.nm_rules.specs.declared.table.HeldRow.{HeldRow}
 use Rattle.nm_slot.specs.declared.phase.Phase.{Phase as SlotPhase}
 use Rattle.nm_slot.specs.declared.phase.Phase.TheVariants as slot_phase
 use Rattle.nm_slot.specs.History.{slot_now, own_now, tables_now}
 use Rattle.nm_slot.specs.Moves.{Move, move_now}
-use Rattle.nm_slot.specs.Phases.{Phase, phase_now, source_of, column}
+use Rattle.nm_slot.specs.Phases.{Phase, source_of}
 use Rattle.nm_slot.specs.Phases.Phase.{At, Closing, Frozen, Passing}
-use Rattle.nm_slot.specs.SlotNow.{Offer, Left, Own, SlotView, Stage, phase_of, phase_away, phase_at}
-use Rattle.nm_slot.specs.SlotNow.Stage.{Away, Here}
-use Rattle.nm_slot.proofs.Facts.{Facts, OffersStand}
+use Rattle.nm_slot.specs.SlotNow.{Offer, Left, Own, SlotView, phase_of, phase_away}
+use Rattle.nm_slot.proofs.Facts.{Facts}
 use Rattle.nm_slot.proofs.HistoryFacts.{begins_now, facts_of}
 use Rattle.nm_short.specs.ShortRun.{FileNow, at_server, source, phase_of_file}
 use Rattle.nm_short.specs.Tables.{FileTables, phase_by, phase_in, slot_in, shower, shown_table, table_of, offer_table}
-use Rattle.nm_short.proofs.HistoryFacts.{LeftStands, also_of, slot_by, went_to}
+use Rattle.nm_short.proofs.HistoryFacts.{also_of}
+use Rattle.nm_short.proofs.StepWords.{LeftStands, slot_by, went_to}
 use Rattle.nm_short.proofs.Standing.{Stands}
 
 -- ---- the phase

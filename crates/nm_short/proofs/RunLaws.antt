@@ -1,11 +1,11 @@
 -- The run over what servers have is the run over their steps.
-use Rattle.std.proofs.Common.{◌≡◌, ◌<◌, ◌≤◌, ◌+◌, ℕ, zero, suc, List, [], ◌∷◌, ◌++◌, drop, take, length, get_or, append_assoc, add-one, Option, Some, None, refl, ap, sym, subst, ◌∙◌, arith}
+use Rattle.std.proofs.Common.{◌≡◌, ◌<◌, ◌≤◌, ◌+◌, ℕ, List, [], ◌∷◌, ◌++◌, drop, take, length, get_or, append_assoc, add-one, Option, Some, None, refl, ap, sym, ◌∙◌, arith}
 use Rattle.std.proofs.lemmas.List.{append-nil, drop_all}
 use Rattle.std.proofs.lemmas.List.Elements.{All-head, All-tail, All-take}
 use Rattle.std.proofs.lemmas.Option.{same_Some, slice_get-map}
 use Rattle.std.proofs.Math.Seq.{drop-cons}
 use Rattle.std.specs.Prelude.{slice_get, unwrap_or, option_map}
-use Rattle.std.specs.List.{All, AllZip}
+use Rattle.std.specs.List.{All}
 use Rattle.nm_script.specs.Grammar.{IsRun, IsWellFormed}
 use Rattle.nm_script.specs.Text.{report_text, text_of}
 use Rattle.nm_script.specs.declared.report.ReportRow.{ReportRow}
@@ -15,11 +15,11 @@ use Rattle.nm_script.specs.declared.script.Line.{Line}
 use Rattle.nm_script.specs.declared.script.Script.{Script}
 use Rattle.nm_slot.specs.SlotNow.{SlotView}
 use Rattle.nm_short.specs.RunFacts.{run_after, tables_after, run_at, tables_at, run_of_head, home_of, IsAccounted}
-use Rattle.nm_short.specs.ShortRun.{FileNow, RunNow, Ran, at_server, run_line, reports, short_run}
+use Rattle.nm_short.specs.ShortRun.{FileNow, RunNow, at_server, run_line, reports, short_run}
 use Rattle.nm_short.specs.Tables.{FileTables, TablesNow, Step, slot_in, no_part, told_line, text_from, tables_of_head}
 use Rattle.nm_short.proofs.FirstLaws.{run_at_first}
 use Rattle.nm_short.proofs.HomeLaws.{homes_after, home_at}
-use Rattle.nm_short.proofs.LineLaws.{AllStand, BothStand, RunStands, IsRan, line_same, stands_at}
+use Rattle.nm_short.proofs.LineLaws.{BothStand, RunStands, IsRan, line_same, stands_at}
 use Rattle.nm_short.proofs.Standing.{Stands}
 
 -- ---- the text

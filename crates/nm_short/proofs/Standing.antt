@@ -1,26 +1,25 @@
 -- What the servers have of a file system stands for the list of their steps, and one more step keeps that.
-use Rattle.std.proofs.Common.{◌≡◌, ◌≢◌, ◌<◌, ◌≤◌, ℕ, Bool, true, false, cond, List, [], ◌∷◌, length, get_or, set, Option, Some, None, refl, sym, subst, ap, ◌∙◌, arith, eqb-true, eq-eqb, inl, inr, ◌⊎◌, ⊎_elim}
-use Rattle.std.specs.Prelude.{◌==◌, option_map, unwrap_or, slice_get}
+use Rattle.std.proofs.Common.{◌≡◌, ◌≢◌, ◌<◌, ◌≤◌, ℕ, Bool, true, false, length, get_or, set, Option, Some, None, refl, sym, subst, ap, ◌∙◌, arith, ⊎_elim}
+use Rattle.std.specs.Prelude.{option_map}
 use Rattle.std.proofs.lemmas.Bool.{cases_eq, cases_lt}
 use Rattle.std.proofs.lemmas.List.{get_or-set_same, get_or-set_other, get_or_past, length-set}
 use Rattle.std.proofs.lemmas.Option.{unwrap_or-slice_get}
-use Rattle.nm_rules.specs.Parties.{Party}
-use Rattle.nm_slot.specs.declared.answers.Begin.TheVariants as begin
-use Rattle.nm_slot.specs.declared.answers.Install.{Install}
 use Rattle.nm_slot.specs.declared.answers.Install.TheVariants as install
 use Rattle.nm_slot.specs.Changes.{slot_after}
-use Rattle.nm_slot.specs.History.{Home, IsHistory, MayCome, slot_now, own_now, tables_now, passes_now}
+use Rattle.nm_slot.specs.History.{IsHistory, MayCome, slot_now, own_now, tables_now}
 use Rattle.nm_slot.specs.Moves.{Move, Sent, no_move, move_now, is_handed, latest_offer, latest_handed}
 use Rattle.nm_slot.specs.Moves.Fate.{NotBegun}
-use Rattle.nm_slot.specs.Phases.{Phase, Moment, phase_now, source_of}
-use Rattle.nm_slot.specs.SlotNow.{Offer, SlotView, HandedOver, SlotStep}
-use Rattle.nm_slot.specs.SlotNow.HandedOver.{Committed, Again, Dead}
+use Rattle.nm_slot.specs.Phases.{Moment, phase_now}
+use Rattle.nm_slot.specs.SlotNow.{Offer, SlotStep}
+use Rattle.nm_slot.specs.SlotNow.HandedOver.{Committed, Again}
 use Rattle.nm_slot.specs.SlotNow.SlotStep.{Imaging, Committing, Installing}
 use Rattle.nm_slot.proofs.HistoryFacts.{begins_now, facts_of}
 use Rattle.nm_slot.proofs.SlotsFollow.{own_slot, other_slots}
 use Rattle.nm_short.specs.ShortRun.{FileNow, at_server, did, source}
 use Rattle.nm_short.specs.Tables.{FileTables, SentTo, HandedTo, slot_in, stepped, no_part}
-use Rattle.nm_short.proofs.HistoryFacts.{AlsoOf, also_of, dest_kept, dest_within, GoesBelow, same_source, is_installing}
+use Rattle.nm_short.proofs.HistoryFacts.{also_of}
+use Rattle.nm_short.proofs.HolderFree.{same_source, is_installing}
+use Rattle.nm_short.proofs.MovesKept.{dest_kept, dest_within, GoesBelow}
 
 -- ---- what stands for what
 

@@ -1,5 +1,5 @@
 -- What holds of the run of every script, after any number of its lines.
-use Rattle.std.specs.Prelude.{◌≡◌, ℕ, Bool, false, List, [], ◌∷◌, Option, Some, length, take, slice_get}
+use Rattle.std.specs.Prelude.{◌≡◌, ℕ, false, List, [], ◌∷◌, Some, length, take, slice_get}
 use Rattle.nm_script.specs.declared.script.FsRow.{FsRow}
 use Rattle.nm_script.specs.declared.script.Head.{Head}
 use Rattle.nm_script.specs.declared.script.Line.{Line}
