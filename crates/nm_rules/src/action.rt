@@ -1,8 +1,8 @@
 //! What a script asks a client to do, with numbers for names.
-ghost use Rattle.std.specs.Prelude.{◌≡◌};
-ghost use Rattle.nm_rules.specs.Actions.{verb_of};
+ghost use Rattle.std.specs.Prelude.{◌≡◌, IfOk};
+ghost use Rattle.nm_rules.specs.Actions.{verb_of, fs_of};
 
-use crate::{Bytes, FsNum};
+use crate::{Bytes, FsNum, Memory};
 
 /// An open of a file, by an owner.
 #[derive(Debug, PartialEq, Eq, Drop)]
@@ -18,6 +18,21 @@ pub struct OpenAction {
     pub owner: Bytes,
 }
 
+impl OpenAction {
+    /// The same open once more.
+    pub fn copy(&self) -> Result<OpenAction, Memory>
+        ensures { IfOk result (λ a. a ≡ self.now) }
+    {
+        Ok(OpenAction {
+            fs: self.fs,
+            file: self.file.copy()?,
+            access: self.access,
+            deny: self.deny,
+            owner: self.owner.copy()?,
+        })
+    }
+}
+
 /// A close of an owner's open of a file.
 #[derive(Debug, PartialEq, Eq, Drop)]
 pub struct CloseAction {
@@ -26,6 +41,19 @@ pub struct CloseAction {
     pub file: Bytes,
     /// The owner's name.
     pub owner: Bytes,
+}
+
+impl CloseAction {
+    /// The same close once more.
+    pub fn copy(&self) -> Result<CloseAction, Memory>
+        ensures { IfOk result (λ a. a ≡ self.now) }
+    {
+        Ok(CloseAction {
+            fs: self.fs,
+            file: self.file.copy()?,
+            owner: self.owner.copy()?,
+        })
+    }
 }
 
 /// What a client does.
@@ -57,5 +85,25 @@ impl Action {
             Action::Create(_) => Verb::Create,
             Action::Close(_) => Verb::Close,
         }
+    }
+    /// The file system that it names.
+    pub fn fs(&self) -> FsNum
+        ensures { result ≡ fs_of self.now }
+    {
+        match self {
+            Action::Open(a) | Action::Create(a) => a.fs,
+            Action::Close(a) => a.fs,
+        }
+    }
+
+    /// The same action once more.
+    pub fn copy(&self) -> Result<Action, Memory>
+        ensures { IfOk result (λ action. action ≡ self.now) }
+    {
+        Ok(match self {
+            Action::Open(a) => Action::Open(a.copy()?),
+            Action::Create(a) => Action::Create(a.copy()?),
+            Action::Close(a) => Action::Close(a.copy()?),
+        })
     }
 }

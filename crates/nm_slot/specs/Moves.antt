@@ -6,7 +6,7 @@ use Rattle.nm_slot.specs.declared.answers.Begin.TheVariants as begin
 use Rattle.nm_slot.specs.declared.answers.Install.TheVariants as install
 use Rattle.nm_slot.specs.Phases.{Moment}
 use Rattle.nm_slot.specs.SlotNow.{Offer, SlotStep}
-use Rattle.nm_slot.specs.SlotNow.HandedOver.{Committed}
+use Rattle.nm_slot.specs.SlotNow.HandedOver.{Committed, Again}
 use Rattle.nm_slot.specs.SlotNow.SlotStep.{Entering, Leaving, Applying, Beginning, Freezing, Imaging, Committing, Abandoning, Accepting, Installing, Withdrawing}
 
 -- How far a move has come.
@@ -54,3 +54,26 @@ is_handed UnderWay = false
 is_handed GivenUp = false
 is_handed Handed = true
 is_handed Done = true
+
+-- The latest offer that was sent, with the server that made it.
+pub record Sent : Type 0 where
+  pub source : ℕ
+  pub offer : Offer
+
+abbrev pub sent_by : ℕ → SlotStep → Option Sent → Option Sent
+sent_by server (Imaging (Some offer)) before = Some (record { source = server; offer = offer })
+sent_by server _ before = before
+
+unfoldable pub latest_offer : List Moment → Option Sent
+latest_offer [] = None
+latest_offer (x ∷ earlier) = sent_by x.server x.step (latest_offer earlier)
+
+-- The number of the latest move of which word was sent that it was handed over.
+abbrev pub told_by : SlotStep → Option ℕ → Option ℕ
+told_by (Committing number (Committed parties)) before = Some number
+told_by (Committing number Again) before = Some number
+told_by _ before = before
+
+unfoldable pub latest_handed : List Moment → Option ℕ
+latest_handed [] = None
+latest_handed (x ∷ earlier) = told_by x.step (latest_handed earlier)

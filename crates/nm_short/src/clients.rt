@@ -1,11 +1,12 @@
 //! What the clients of a script know, and what they send.
 ghost use Rattle.std.specs.Prelude.{◌≡◌, ◌==◌, ◌≤◌, ◌++◌, not, length, filter, codes, IfOk, OnOk, option_copied};
 ghost use Rattle.nm_rules.specs.Shares.{next_seqid};
-ghost use Rattle.nm_cmd.specs.ShortRun.{knows_nothing, seqid_of, other_seqids, moved_on, held_of, others_held, holds_opened, holds_closed, learned, learned_open, party_of, owner_text, open_call, close_call, call_of};
+ghost use Rattle.nm_short.specs.Known.{knows_nothing, seqid_of, other_seqids, moved_on, held_of, others_held, holds_opened, holds_closed, learned, learned_open, party_of, owner_text, open_call, close_call, call_of};
 
 use nm_rules::{
-    Action, Bytes, Call, CloseAction, CloseArgs, Deed, Instance, Items, Memory, OpStatus,
-    OpenAction, OpenArgs, OpenClaim, OpenHow, Principal, Reply, ReplyValue, StateId, StateRef,
+    Action, Bytes, Call, CloseAction, CloseArgs, Deed, FsNum, Instance, Items, Memory, OpStatus,
+    OpenAction, OpenArgs, OpenClaim, OpenHow, Principal, Reply, ReplyValue, ServerNum, StateId,
+    StateRef,
 };
 use nm_script::ClientRow;
 use std::alloc::Global;
@@ -15,6 +16,7 @@ use std::marker::Model;
 #[derive(Debug, PartialEq, Eq, Drop)]
 pub struct OwnerSeqid {
     pub client: u32,
+    pub fs: FsNum,
     /// The owner's name.
     pub owner: Bytes,
     pub next: u32,
@@ -24,6 +26,7 @@ pub struct OwnerSeqid {
 #[derive(Debug, PartialEq, Eq, Drop)]
 pub struct HeldOpen {
     pub client: u32,
+    pub fs: FsNum,
     /// The owner's name.
     pub owner: Bytes,
     /// The file's name.
@@ -34,38 +37,55 @@ pub struct HeldOpen {
     pub stateid: StateId,
 }
 
+/// Where a client believes a file system to be.
+#[derive(Clone, Copy, Debug, PartialEq, Eq)]
+pub struct Believed {
+    pub client: u32,
+    pub fs: FsNum,
+    pub at: ServerNum,
+}
+
+/// An action of a client that waits for a file system on its way.
+#[derive(Debug, PartialEq, Eq, Drop)]
+pub struct InHand {
+    pub client: u32,
+    pub action: Action,
+}
+
 /// What all clients know.
 #[derive(Debug, Drop)]
 pub struct Clients {
     alloc: Global,
     seqids: Vec<OwnerSeqid>,
     held: Vec<HeldOpen>,
+    places: Vec<Believed>,
+    in_hand: Vec<InHand>,
 }
 
 impl Model for Clients {
-    ghost use Rattle.nm_cmd.specs.ShortRun.{Known};
+    ghost use Rattle.nm_short.specs.Known.{Known};
 
     ghost Value = { Known };
 
-    ghost view = { λ c. record { seqids = c.seqids.items; held = c.held.items } };
+    ghost view = { λ c. record { seqids = c.seqids.items; held = c.held.items; places = c.places.items; in_hand = c.in_hand.items } };
 }
 
 // The next seqid of an owner.
-#[tactic(auto, unfolding(crate::specs::ShortRun::seqid_of))]
-fn find_seqid(rows: &[OwnerSeqid], client: u32, owner: &[u8]) -> u32
-    ensures { result ≡ seqid_of client owner.now rows.now }
+#[tactic(auto, unfolding(crate::specs::Known::seqid_of))]
+fn find_seqid(rows: &[OwnerSeqid], client: u32, fs: FsNum, owner: &[u8]) -> u32
+    ensures { result ≡ seqid_of client fs owner.now rows.now }
 {
     rows.iter()
-        .find(|row| row.client == client && row.owner.items() == owner)
+        .find(|row| row.client == client && row.fs == fs && row.owner.items() == owner)
         .map(|row| row.next)
         .unwrap_or(1)
 }
 
 // The seqids of all other owners.
-fn drop_seqid(rows: &mut Vec<OwnerSeqid>, client: u32, owner: &[u8])
-    ensures { rows.new.items ≡ other_seqids client owner.now rows.old.items }
+fn drop_seqid(rows: &mut Vec<OwnerSeqid>, client: u32, fs: FsNum, owner: &[u8])
+    ensures { rows.new.items ≡ other_seqids client fs owner.now rows.old.items }
 {
-    rows.retain(|row| !(row.client == client && row.owner.items() == owner));
+    rows.retain(|row| !(row.client == client && row.fs == fs && row.owner.items() == owner));
 }
 
 // The seqid after one.
@@ -76,21 +96,23 @@ fn seqid_after(n: u32) -> u32
 }
 
 // Moves an owner on, where the status advances.
-#[tactic(auto, unfolding(crate::specs::ShortRun::moved_on))]
+#[tactic(auto, unfolding(crate::specs::Known::moved_on))]
 fn move_on(
     rows: &mut Vec<OwnerSeqid>,
     client: u32,
+    fs: FsNum,
     owner: &Bytes,
     status: OpStatus,
 ) -> Result<(), Memory>
-    ensures { OnOk result (rows.new.items ≡ moved_on client owner.now status rows.old.items) }
+    ensures { OnOk result (rows.new.items ≡ moved_on client fs owner.now status rows.old.items) }
 {
     if status.advances() {
-        let next = seqid_after(find_seqid(rows, client, owner.items()));
+        let next = seqid_after(find_seqid(rows, client, fs, owner.items()));
         let owner = owner.copy()?;
-        drop_seqid(rows, client, owner.items());
+        drop_seqid(rows, client, fs, owner.items());
         rows.push(OwnerSeqid {
             client,
+            fs,
             owner,
             next,
         })?;
@@ -99,31 +121,34 @@ fn move_on(
 }
 
 // What an owner of a client holds on a file.
-#[tactic(auto, unfolding(crate::specs::ShortRun::held_of))]
+#[tactic(auto, unfolding(crate::specs::Known::held_of))]
 fn find_held<'a>(
     rows: &'a [HeldOpen],
     client: u32,
+    fs: FsNum,
     owner: &[u8],
     file: &[u8],
 ) -> Option<&'a HeldOpen>
-    ensures { option_copied result ≡ held_of client owner.now file.now rows.now }
+    ensures { option_copied result ≡ held_of client fs owner.now file.now rows.now }
 {
     rows.iter().find(|row| row.client == client
+        && row.fs == fs
         && row.owner.items() == owner
         && row.file.items() == file)
 }
 
 // What all others hold.
-fn drop_held(rows: &mut Vec<HeldOpen>, client: u32, owner: &[u8], file: &[u8])
-    ensures { rows.new.items ≡ others_held client owner.now file.now rows.old.items }
+fn drop_held(rows: &mut Vec<HeldOpen>, client: u32, fs: FsNum, owner: &[u8], file: &[u8])
+    ensures { rows.new.items ≡ others_held client fs owner.now file.now rows.old.items }
 {
     rows.retain(|row| !(row.client == client
+        && row.fs == fs
         && row.owner.items() == owner
         && row.file.items() == file));
 }
 
 // What the reply to an OPEN leaves in a client's hands.
-#[tactic(auto, unfolding(crate::specs::ShortRun::holds_opened))]
+#[tactic(auto, unfolding(crate::specs::Known::holds_opened))]
 fn hold_opened(
     rows: &mut Vec<HeldOpen>,
     client: u32,
@@ -135,9 +160,10 @@ fn hold_opened(
     if let ReplyValue::Open(Some(opened)) = value {
         let owner = a.owner.copy()?;
         let file = a.file.copy()?;
-        drop_held(rows, client, a.owner.items(), a.file.items());
+        drop_held(rows, client, a.fs, a.owner.items(), a.file.items());
         rows.push(HeldOpen {
             client,
+            fs: a.fs,
             owner,
             file,
             handle: opened.file,
@@ -148,12 +174,12 @@ fn hold_opened(
 }
 
 // What the reply to a CLOSE leaves in a client's hands.
-#[tactic(auto, unfolding(crate::specs::ShortRun::holds_closed))]
+#[tactic(auto, unfolding(crate::specs::Known::holds_closed))]
 fn hold_closed(rows: &mut Vec<HeldOpen>, client: u32, a: &CloseAction, value: ReplyValue)
     ensures { rows.new.items ≡ holds_closed client a.now value rows.old.items }
 {
     if let ReplyValue::Close(Some(_)) = value {
-        drop_held(rows, client, a.owner.items(), a.file.items());
+        drop_held(rows, client, a.fs, a.owner.items(), a.file.items());
     }
 }
 
@@ -167,7 +193,7 @@ fn joined(alloc: Global, front: &[u8], back: &[u8]) -> Result<Vec<u8>, Memory>
 }
 
 // A client's instance.
-#[tactic(auto, unfolding(crate::specs::ShortRun::party_of))]
+#[tactic(auto, unfolding(crate::specs::Known::party_of))]
 fn instance_of(alloc: Global, client: u32, row: &ClientRow) -> Result<Instance, Memory>
     requires { length row.now.name ≤ 16 }
     ensures { IfOk result (λ instance. instance ≡ party_of client row.now) }
@@ -184,7 +210,7 @@ fn instance_of(alloc: Global, client: u32, row: &ClientRow) -> Result<Instance, 
 }
 
 // An owner's text.
-#[tactic(auto, unfolding(crate::specs::ShortRun::owner_text))]
+#[tactic(auto, unfolding(crate::specs::Known::owner_text))]
 fn text_of_owner(alloc: Global, row: &ClientRow, owner: &Bytes) -> Result<Bytes, Memory>
     ensures { IfOk result (λ text. text ≡ owner_text row.now owner.now) }
 {
@@ -194,7 +220,7 @@ fn text_of_owner(alloc: Global, row: &ClientRow, owner: &Bytes) -> Result<Bytes,
 }
 
 // The call of an OPEN.
-#[tactic(auto, unfolding(crate::specs::ShortRun::open_call))]
+#[tactic(auto, unfolding(crate::specs::Known::open_call))]
 fn make_open(
     alloc: Global,
     client: u32,
@@ -222,7 +248,7 @@ fn make_open(
 }
 
 // The call of a CLOSE.
-#[tactic(auto, unfolding(crate::specs::ShortRun::close_call))]
+#[tactic(auto, unfolding(crate::specs::Known::close_call))]
 fn make_close(
     alloc: Global,
     client: u32,
@@ -253,11 +279,13 @@ impl Clients {
             alloc,
             seqids: Vec::new(alloc),
             held: Vec::new(alloc),
+            places: Vec::new(alloc),
+            in_hand: Vec::new(alloc),
         }
     }
 
     /// The call that a client's action sends. `None` exactly where it needs a stateid that the client hasn't.
-    #[tactic(auto, unfolding(crate::specs::ShortRun::call_of))]
+    #[tactic(auto, unfolding(crate::specs::Known::call_of))]
     pub fn call_of(
         &self,
         client: u32,
@@ -270,16 +298,16 @@ impl Clients {
         let alloc = self.alloc;
         match action {
             Action::Open(a) => {
-                let seqid = find_seqid(&self.seqids, client, a.owner.items());
+                let seqid = find_seqid(&self.seqids, client, a.fs, a.owner.items());
                 Ok(Some(make_open(alloc, client, row, a, OpenHow::NoCreate, seqid)?))
             }
             Action::Create(a) => {
-                let seqid = find_seqid(&self.seqids, client, a.owner.items());
+                let seqid = find_seqid(&self.seqids, client, a.fs, a.owner.items());
                 Ok(Some(make_open(alloc, client, row, a, OpenHow::Unchecked, seqid)?))
             }
             Action::Close(a) => {
-                let seqid = find_seqid(&self.seqids, client, a.owner.items());
-                match find_held(&self.held, client, a.owner.items(), a.file.items()) {
+                let seqid = find_seqid(&self.seqids, client, a.fs, a.owner.items());
+                match find_held(&self.held, client, a.fs, a.owner.items(), a.file.items()) {
                     Some(held) => Ok(Some(make_close(alloc, client, row, held, seqid)?)),
                     None => Ok(None),
                 }
@@ -291,19 +319,19 @@ impl Clients {
     fn learn_open(&mut self, client: u32, a: &OpenAction, reply: &Reply) -> Result<(), Memory>
         ensures { OnOk result (self.new ≡ learned_open client a.now reply.now self.old) }
     {
-        move_on(&mut self.seqids, client, &a.owner, reply.status)?;
+        move_on(&mut self.seqids, client, a.fs, &a.owner, reply.status)?;
         Ok(hold_opened(&mut self.held, client, a, reply.value)?)
     }
 
     /// The reply to a client's action. After want of memory nothing is promised of what is known.
-    #[tactic(auto, unfolding(crate::specs::ShortRun::learned))]
+    #[tactic(auto, unfolding(crate::specs::Known::learned))]
     pub fn learn(&mut self, client: u32, action: &Action, reply: &Reply) -> Result<(), Memory>
         ensures { OnOk result (self.new ≡ learned client action.now reply.now self.old) }
     {
         match action {
             Action::Open(a) | Action::Create(a) => Ok(self.learn_open(client, a, reply)?),
             Action::Close(a) => {
-                move_on(&mut self.seqids, client, &a.owner, reply.status)?;
+                move_on(&mut self.seqids, client, a.fs, &a.owner, reply.status)?;
                 hold_closed(&mut self.held, client, a, reply.value);
                 Ok(())
             }

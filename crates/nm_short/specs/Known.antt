@@ -1,0 +1,160 @@
+-- What the clients of a script know, and what they send.
+use Rattle.std.specs.Prelude.{ℕ, ◌==◌, ◌&&◌, not, Bool, List, [], ◌∷◌, ◌++◌, Option, Some, None, find, filter, option_map, unwrap_or, codes, if◌then◌else◌}
+use Rattle.std.specs.Str.{bytes_eq}
+use Rattle.nm_rules.specs.Parties.{Party}
+use Rattle.nm_rules.specs.Seqids.{advances}
+use Rattle.nm_rules.specs.Shares.{next_seqid}
+use Rattle.nm_rules.specs.declared.action.Action.{Action}
+use Rattle.nm_rules.specs.declared.action.Action.TheVariants.{Open, Create, Close}
+use Rattle.nm_rules.specs.declared.action.OpenAction.{OpenAction}
+use Rattle.nm_rules.specs.declared.action.CloseAction.{CloseAction}
+use Rattle.nm_rules.specs.declared.calls.Call.{Call}
+use Rattle.nm_rules.specs.declared.calls.Deed.TheVariants.{Open as OpenDeed, Close as CloseDeed}
+use Rattle.nm_rules.specs.declared.calls.OpenHow.{OpenHow}
+use Rattle.nm_rules.specs.declared.calls.OpenHow.TheVariants.{NoCreate, Unchecked}
+use Rattle.nm_rules.specs.declared.calls.OpenClaim.TheVariants.{Null}
+use Rattle.nm_rules.specs.declared.calls.StateRef.TheVariants.{Named}
+use Rattle.nm_rules.specs.declared.calls.Reply.{Reply}
+use Rattle.nm_rules.specs.declared.calls.ReplyValue.{ReplyValue}
+use Rattle.nm_rules.specs.declared.calls.ReplyValue.TheVariants.{Nothing, Open as OpenReply, Close as CloseReply}
+use Rattle.nm_rules.specs.declared.status.OpStatus.{OpStatus}
+use Rattle.nm_script.specs.declared.script.ClientRow.{ClientRow}
+use Rattle.nm_short.specs.declared.clients.Believed.{Believed}
+use Rattle.nm_short.specs.declared.clients.HeldOpen.{HeldOpen}
+use Rattle.nm_short.specs.declared.clients.InHand.{InHand}
+use Rattle.nm_short.specs.declared.clients.OwnerSeqid.{OwnerSeqid}
+
+-- ---- what clients know
+
+pub record Known : Type 0 where
+  pub seqids : List OwnerSeqid
+  pub held : List HeldOpen
+  -- where a client believes a file system to be, where it was sent elsewhere than at first
+  pub places : List Believed
+  -- the actions that wait for a file system on its way
+  pub in_hand : List InHand
+
+abbrev pub knows_nothing : Known
+knows_nothing = record { seqids = []; held = []; places = []; in_hand = [] }
+
+abbrev pub is_seqid_of : ℕ → ℕ → List ℕ → OwnerSeqid → Bool
+is_seqid_of client fs owner row = (row.client == client) && (row.fs == fs) && bytes_eq row.owner owner
+
+-- An owner's first seqid in a file system is 1.
+unfoldable pub seqid_of : ℕ → ℕ → List ℕ → List OwnerSeqid → ℕ
+seqid_of client fs owner rows = unwrap_or (option_map (λ row. row.next) (find (is_seqid_of client fs owner) rows)) 1
+
+abbrev pub other_seqids : ℕ → ℕ → List ℕ → List OwnerSeqid → List OwnerSeqid
+other_seqids client fs owner rows = filter (λ row. not (is_seqid_of client fs owner row)) rows
+
+-- The reply moves the owner on to its next seqid, where its status advances.
+unfoldable pub moved_on : ℕ → ℕ → List ℕ → OpStatus → List OwnerSeqid → List OwnerSeqid
+moved_on client fs owner status rows =
+    if advances status
+    then other_seqids client fs owner rows ++ record { client = client; fs = fs; owner = owner; next = next_seqid (seqid_of client fs owner rows) } ∷ []
+    else rows
+
+abbrev pub is_held_of : ℕ → ℕ → List ℕ → List ℕ → HeldOpen → Bool
+is_held_of client fs owner file row = (row.client == client) && (row.fs == fs) && bytes_eq row.owner owner && bytes_eq row.file file
+
+-- what an owner of a client holds on a file
+unfoldable pub held_of : ℕ → ℕ → List ℕ → List ℕ → List HeldOpen → Option HeldOpen
+held_of client fs owner file rows = find (is_held_of client fs owner file) rows
+
+abbrev pub others_held : ℕ → ℕ → List ℕ → List ℕ → List HeldOpen → List HeldOpen
+others_held client fs owner file rows = filter (λ row. not (is_held_of client fs owner file row)) rows
+
+-- An OK of OPEN tells the file's handle and the stateid; the client keeps them in the place of older ones.
+unfoldable pub holds_opened : ℕ → OpenAction → ReplyValue → List HeldOpen → List HeldOpen
+holds_opened client a (OpenReply (Some opened)) rows = others_held client a.fs a.owner a.file rows
+    ++ record { client = client; fs = a.fs; owner = a.owner; file = a.file; handle = opened.file; stateid = opened.stateid } ∷ []
+holds_opened client a (OpenReply None) rows = rows
+holds_opened client a (CloseReply id) rows = rows
+holds_opened client a Nothing rows = rows
+
+-- With an OK of CLOSE the client holds it no longer.
+unfoldable pub holds_closed : ℕ → CloseAction → ReplyValue → List HeldOpen → List HeldOpen
+holds_closed client a (CloseReply (Some id)) rows = others_held client a.fs a.owner a.file rows
+holds_closed client a (CloseReply None) rows = rows
+holds_closed client a (OpenReply opened) rows = rows
+holds_closed client a Nothing rows = rows
+
+abbrev pub learned_open : ℕ → OpenAction → Reply → Known → Known
+learned_open client a reply known =
+    record known { seqids = moved_on client a.fs a.owner reply.status known.seqids; held = holds_opened client a reply.value known.held }
+
+abbrev pub learned_close : ℕ → CloseAction → Reply → Known → Known
+learned_close client a reply known =
+    record known { seqids = moved_on client a.fs a.owner reply.status known.seqids; held = holds_closed client a reply.value known.held }
+
+-- what a client knows after the reply to an action
+unfoldable pub learned : ℕ → Action → Reply → Known → Known
+learned client (Open a) reply known = learned_open client a reply known
+learned client (Create a) reply known = learned_open client a reply known
+learned client (Close a) reply known = learned_close client a reply known
+
+-- ---- where clients believe a file system to be
+
+abbrev pub is_place_of : ℕ → ℕ → Believed → Bool
+is_place_of client fs row = (row.client == client) && (row.fs == fs)
+
+-- at first where the script has it, and then where the client was sent last
+unfoldable pub place_of : ℕ → ℕ → ℕ → List Believed → ℕ
+place_of client fs first rows = unwrap_or (option_map (λ row. row.at) (find (is_place_of client fs) rows)) first
+
+unfoldable pub sent_to : ℕ → ℕ → ℕ → List Believed → List Believed
+sent_to client fs at rows =
+    filter (λ row. not (is_place_of client fs row)) rows ++ record { client = client; fs = fs; at = at } ∷ []
+
+-- ---- what clients have in hand
+
+-- the action that waits
+unfoldable pub hand_of : ℕ → List InHand → Option Action
+hand_of client rows = option_map (λ row. row.action) (find (λ row. row.client == client) rows)
+
+unfoldable pub put_down : ℕ → List InHand → List InHand
+put_down client rows = filter (λ row. not (row.client == client)) rows
+
+unfoldable pub taken_up : ℕ → Action → List InHand → List InHand
+taken_up client action rows = put_down client rows ++ record { client = client; action = action } ∷ []
+
+-- ---- what clients send
+
+-- A client's string is nfsmove/NAME, and its principal the user of its number, by AUTH_SYS.
+unfoldable pub party_of : ℕ → ClientRow → Party
+party_of client row =
+    record { id = codes "nfsmove/" ++ row.name; verifier = row.verifier; principal = record { flavor = 1; uid = client } }
+
+-- An owner's text is NAME/OWNER.
+unfoldable pub owner_text : ClientRow → List ℕ → List ℕ
+owner_text row owner = row.name ++ codes "/" ++ owner
+
+-- OPEN by name in the root, which is file 1
+unfoldable pub open_call : ℕ → ClientRow → OpenAction → OpenHow → ℕ → Call
+open_call client row a how seqid = record {
+  caller = Some (party_of client row);
+  file = 1;
+  deed = OpenDeed (record {
+    seqid = seqid;
+    access = a.access;
+    deny = a.deny;
+    owner = owner_text row a.owner;
+    how = how;
+    claim = Null a.file;
+  });
+}
+
+-- CLOSE of what the client holds
+unfoldable pub close_call : ℕ → ClientRow → HeldOpen → ℕ → Call
+close_call client row held seqid = record {
+  caller = Some (party_of client row);
+  file = held.handle;
+  deed = CloseDeed (record { seqid = seqid; stateid = Named held.stateid });
+}
+
+-- The call of an action. A CLOSE needs a stateid; without one nothing is sent.
+unfoldable pub call_of : ℕ → ClientRow → Known → Action → Option Call
+call_of client row known (Open a) = Some (open_call client row a NoCreate (seqid_of client a.fs a.owner known.seqids))
+call_of client row known (Create a) = Some (open_call client row a Unchecked (seqid_of client a.fs a.owner known.seqids))
+call_of client row known (Close a) =
+    option_map (λ held. close_call client row held (seqid_of client a.fs a.owner known.seqids)) (held_of client a.fs a.owner a.file known.held)

@@ -1,0 +1,4 @@
+pub mod Known
+pub mod RunFacts
+pub mod ShortRun
+pub mod Tables

@@ -1,0 +1,5 @@
+//! The run of a script without messages between client and server: each call reaches a server at once, and its reply the
+//! client. What the servers of a move send one another waits for the lines that deliver it.
+#![tactic(auto)]
+
+mod clients;
