@@ -10,8 +10,8 @@ use Rattle.nm_slot.specs.declared.answers.Begin.TheVariants as begin
 use Rattle.nm_slot.specs.declared.answers.Enter.TheVariants as enter
 use Rattle.nm_slot.specs.declared.answers.Freeze.TheVariants as freeze
 use Rattle.nm_slot.specs.declared.answers.Install.TheVariants as install
-use Rattle.nm_slot.specs.Answers.{begun as begin_by, apply_answer, begin_answer, freeze_answer, image_answer, commit_answer, abandon_answer, accept_answer, install_answer, withdraw_answer}
-use Rattle.nm_slot.specs.Changes.{own_after, own_accepted, own_withdrawn}
+use Rattle.nm_slot.specs.Answers.{apply_answer, begin_answer, freeze_answer, image_answer, commit_answer, abandon_answer, accept_answer, install_answer, withdraw_answer}
+use Rattle.nm_slot.specs.Changes.{own_after}
 use Rattle.nm_slot.specs.History.{Home, dest_from, own_now, tables_now, entries_now, with_entry, slot_now, passes_now, IsAnswered, IsDelivered, IsHistory}
 use Rattle.nm_slot.specs.Moves.{Move, no_move, move_after, move_now}
 use Rattle.nm_slot.specs.Phases.{Phase, Moment, phase_now, column}
@@ -19,13 +19,12 @@ use Rattle.nm_slot.specs.Phases.Phase.{At}
 use Rattle.nm_slot.specs.SlotNow.{Own, SlotStep, nothing_yet}
 use Rattle.nm_slot.specs.SlotNow.HandedOver.{Committed}
 use Rattle.nm_slot.specs.SlotNow.SlotStep.{Entering, Leaving, Applying, Beginning, Freezing, Imaging, Committing, Abandoning, Accepting, Installing, Withdrawing}
-use Rattle.nm_slot.proofs.Facts.{Facts, new_move}
+use Rattle.nm_slot.proofs.Facts.{Facts}
 use Rattle.nm_slot.proofs.Inversions.{same_phase, changes_phase}
-use Rattle.nm_slot.proofs.Kept.{next, begun_kept, frozen_kept, imaged_kept, committed_kept, back_kept, called_kept}
+use Rattle.nm_slot.proofs.Kept.{next, known_phase, begun_kept, frozen_kept, imaged_kept, committed_kept, back_kept, called_kept}
 use Rattle.nm_slot.proofs.KeptHeld.{held_kept, now_kept}
 use Rattle.nm_slot.proofs.StepsSettled.{withdrawn}
-use Rattle.nm_slot.proofs.StepsHeld.{prepared_move}
-use Rattle.nm_slot.proofs.StepsSource.{quiet, own_begun, offering, given_up_move}
+use Rattle.nm_slot.proofs.StepsSource.{quiet}
 use Rattle.nm_slot.proofs.Updates.{put, put_same}
 
 -- how many moves began
@@ -48,59 +47,39 @@ starts first t = record {
 }
 
 -- a step that doesn't change the phase
-in_phase : (p : Phase) (begins : ℕ) (move : ℕ → Move) (own : ℕ → Own) (t : Seen) (s : ℕ) (step : SlotStep) → changes_phase step ≡ false
-    → Facts p begins move own t → Facts (next p s step) begins move own t
-in_phase p begins move own t s step e facts = subst (λ q. Facts q begins move own t) (sym (same_phase p s step e)) facts
+in_phase : {p : Phase} {begins : ℕ} {move : ℕ → Move} {own : ℕ → Own} {t : Seen} (facts : Facts p begins move own t) (s : ℕ) (step : SlotStep) → changes_phase step ≡ false
+    → Facts (next p s step) begins move own t
+in_phase {p = p} facts s step e = known_phase (sym (same_phase p s step e)) facts
 
--- a step that changes nothing
-unchanged : (p : Phase) (begins : ℕ) (move : ℕ → Move) (own : ℕ → Own) (t : Seen) (s : ℕ) (step : SlotStep) → changes_phase step ≡ false
-    → Facts p begins move own t → Facts (next p s step) begins move (put s own own) t
-unchanged p begins move own t s step e facts =
-    subst (λ o. Facts (next p s step) begins move o t) (sym (put_same s own)) (in_phase p begins move own t s step e facts)
+-- a step that leaves its server's slot as it was
+slot_same : {p : Phase} {begins : ℕ} {move : ℕ → Move} {own : ℕ → Own} {t : Seen} (facts : Facts p begins move own t) (s : ℕ) → Facts p begins move (put s own own) t
+slot_same {p = p} {begins = begins} {move = move} {own = own} {t = t} facts s = subst (λ o. Facts p begins move o t) (sym (put_same s own)) facts
 
-kept : (p : Phase) (begins : ℕ) (move : ℕ → Move) (own : ℕ → Own) (fs : ℕ) (grants : Bool) (entries : Past) (passes : List ℕ) (s : ℕ) (step : SlotStep)
-    → IsAnswered (record { fs = fs; stage = column p (seen fs grants entries) s; own = own s }) step → IsDelivered move passes s step
-    → Facts p begins move own (seen fs grants entries)
-    → Facts (next p s step) (begins_after begins step) (λ n. move_after n s step (move n))
-    (put s (λ r. own_after step (dest_from p r) (own r)) own) (seen fs grants (with_entry step entries))
-unfolding apply_answer begin_answer freeze_answer image_answer commit_answer abandon_answer accept_answer install_answer withdraw_answer
-kept p begins move own fs grants entries passes s (Entering (enter.Entered pass)) a d facts =
-    in_phase p begins move (put s (λ r. record (own r) { out = (own r).out + 1 }) own) (seen fs grants entries) s (Entering (enter.Entered pass)) refl
-    (quiet p begins move own (λ r. record (own r) { out = (own r).out + 1 }) (seen fs grants entries) s (record { held = refl; known = refl; installed = refl }) refl refl facts)
-kept p begins move own fs grants entries passes s (Leaving epoch) a d facts =
-    in_phase p begins move (put s (λ r. record (own r) { out = (own r).out - 1 }) own) (seen fs grants entries) s (Leaving epoch) refl
-    (quiet p begins move own (λ r. record (own r) { out = (own r).out - 1 }) (seen fs grants entries) s (record { held = refl; known = refl; installed = refl }) refl refl facts)
-kept p begins move own fs grants entries passes s (Applying epoch call verdict (answer.Done place reply)) a d facts =
-    in_phase p begins move (put s (λ r. record (own r) { count = place }) own) (seen fs grants (with_entry (Applying epoch call verdict (answer.Done place reply)) entries)) s
-    (Applying epoch call verdict (answer.Done place reply)) refl
-    (called_kept p begins move own (seen fs grants entries) (seen fs grants (with_entry (Applying epoch call verdict (answer.Done place reply)) entries)) s epoch call verdict place reply
-    (column p (seen fs grants entries) s) refl a facts)
-kept p begins move own fs grants entries passes s (Beginning here dest (begin.Begun n)) a d facts =
-    subst (λ h. Facts (next p s (Beginning h dest (begin.Begun n))) (begins + 1) (put n (λ _. new_move s dest) move) (put s (λ r. own_begun n (own r)) own) (seen fs grants entries)) (sym d)
-    (begun_kept p begins move own (seen fs grants entries) s dest n (column p (seen fs grants entries) s) refl
-    (subst (λ h. begin.Begun n ≡ begin_by h dest (column p (seen fs grants entries) s) (own s)) d a) facts)
-kept p begins move own fs grants entries passes s (Freezing (freeze.Frozen n)) a d facts =
-    subst (λ o. Facts (next p s (Freezing (freeze.Frozen n))) begins move o (seen fs grants entries)) (sym (put_same s own))
-    (frozen_kept p begins move own (seen fs grants entries) s n (column p (seen fs grants entries) s) refl a facts)
-kept p begins move own fs grants entries passes s (Imaging (Some offer)) a d facts =
-    subst (λ o. Facts (next p s (Imaging (Some offer))) begins (put offer.number (λ k. offering offer (move k)) move) o (seen fs grants entries)) (sym (put_same s own))
-    (imaged_kept p begins move own (seen fs grants entries) s offer (column p (seen fs grants entries) s) refl a facts)
-kept p begins move own fs grants entries passes s (Committing n (Committed parties)) a d facts =
-    committed_kept p begins move own (seen fs grants entries) s n parties (λ r. Some (record { dest = dest_from p r; number = n }))
-    (column p (seen fs grants entries) s) refl a d.0 facts
-kept p begins move own fs grants entries passes s (Abandoning (abandon.Back n)) a d facts =
-    subst (λ o. Facts (next p s (Abandoning (abandon.Back n))) begins (put n (λ k. given_up_move (move k)) move) o (seen fs grants entries)) (sym (put_same s own))
-    (back_kept p begins move own (seen fs grants entries) s n (column p (seen fs grants entries) s) refl a facts)
-kept p begins move own fs grants entries passes s (Accepting offer accept.Held) a d facts =
-    in_phase p begins (put offer.number (λ k. prepared_move (move k)) move) (put s (λ r. own_accepted offer (own r).held (own r)) own) (seen fs grants entries) s
-    (Accepting offer accept.Held) refl
-    (held_kept p begins move own (seen fs grants entries) s offer (column p (seen fs grants entries) s) a d.0 d.1 facts)
-kept p begins move own fs grants entries passes s (Installing n install.Now) a d facts =
-    now_kept p begins move own (seen fs grants entries) s n a d.0 d.1 facts
-kept p begins move own fs grants entries passes s (Withdrawing n dropped) a d facts =
-    in_phase p begins move (put s (λ r. own_withdrawn dropped n (own r)) own) (seen fs grants entries) s (Withdrawing n dropped) refl
-    (withdrawn p begins move own (seen fs grants entries) s n dropped d.0 a facts)
-kept p begins move own fs grants entries passes s step a d facts = unchanged p begins move own (seen fs grants entries) s step refl facts
+module _ {p : Phase} {begins : ℕ} {move : ℕ → Move} {own : ℕ → Own} (fs : ℕ) (grants : Bool) (entries : Past)
+    (facts : Facts p begins move own (seen fs grants entries)) (passes : List ℕ) (s : ℕ) where
+  kept : (step : SlotStep) → IsAnswered (record { fs = fs; stage = column p (seen fs grants entries) s; own = own s }) step → IsDelivered move passes s step
+      → Facts (next p s step) (begins_after begins step) (λ n. move_after n s step (move n))
+      (put s (λ r. own_after step (dest_from p r) (own r)) own) (seen fs grants (with_entry step entries))
+  unfolding apply_answer begin_answer freeze_answer image_answer commit_answer abandon_answer accept_answer install_answer withdraw_answer
+  kept (Entering (enter.Entered pass)) a d =
+      in_phase (quiet facts s (λ r. record (own r) { out = (own r).out + 1 }) (record { held = refl; known = refl; installed = refl }) refl refl)
+      s (Entering (enter.Entered pass)) refl
+  kept (Leaving epoch) a d =
+      in_phase (quiet facts s (λ r. record (own r) { out = (own r).out - 1 }) (record { held = refl; known = refl; installed = refl }) refl refl) s (Leaving epoch) refl
+  kept (Applying epoch call verdict (answer.Done place reply)) a d =
+      in_phase (called_kept facts s (seen fs grants (with_entry (Applying epoch call verdict (answer.Done place reply)) entries)) epoch call verdict place reply
+      (column p (seen fs grants entries) s) refl a) s (Applying epoch call verdict (answer.Done place reply)) refl
+  kept (Beginning here dest (begin.Begun n)) a d = begun_kept facts s here dest n (column p (seen fs grants entries) s) d refl a
+  kept (Freezing (freeze.Frozen n)) a d = slot_same (frozen_kept facts s n (column p (seen fs grants entries) s) refl a) s
+  kept (Imaging (Some offer)) a d = slot_same (imaged_kept facts s offer (column p (seen fs grants entries) s) refl a) s
+  kept (Committing n (Committed parties)) a d =
+      committed_kept facts s n parties (λ r. Some (record { dest = dest_from p r; number = n })) (column p (seen fs grants entries) s) refl a d.0
+  kept (Abandoning (abandon.Back n)) a d = slot_same (back_kept facts s n (column p (seen fs grants entries) s) refl a) s
+  kept (Accepting offer accept.Held) a d =
+      in_phase (held_kept facts s offer d.0 d.1 (column p (seen fs grants entries) s) a) s (Accepting offer accept.Held) refl
+  kept (Installing n install.Now) a d = now_kept facts s n d.1 d.0 a
+  kept (Withdrawing n dropped) a d = in_phase (withdrawn facts s n dropped d.0 a) s (Withdrawing n dropped) refl
+  kept step a d = slot_same (in_phase facts s step refl) s
 
 -- They hold after any steps that came as they may.
 pub facts_of : (home : Home) (h : List Moment) → IsHistory home h
@@ -108,5 +87,4 @@ pub facts_of : (home : Home) (h : List Moment) → IsHistory home h
 unfolding phase_now begins_now move_now own_now entries_now slot_now
 facts_of home [] it = starts home.first (tables_now home [])
 facts_of home (x ∷ earlier) it =
-    kept (phase_now home.first earlier) (begins_now earlier) (λ n. move_now earlier n) (λ s. own_now home.first earlier s) home.fs home.grants (entries_now earlier)
-    (passes_now earlier x.server) x.server x.step it.0.answered it.0.delivered (facts_of home earlier it.1)
+    kept home.fs home.grants (entries_now earlier) (facts_of home earlier it.1) (passes_now earlier x.server) x.server x.step it.0.answered it.0.delivered

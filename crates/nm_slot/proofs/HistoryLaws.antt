@@ -17,7 +17,6 @@ use Rattle.nm_slot.specs.Answers.{applied, enter_answer, apply_answer, install_a
 use Rattle.nm_slot.specs.Door.{door_answer}
 use Rattle.nm_slot.specs.History.{Home, own_now, tables_now, entries_now, with_entry, frozen_entries, slot_now, IsAnswered, IsHistory}
 use Rattle.nm_slot.specs.Laws.{IsWhole}
-use Rattle.nm_slot.specs.Moves.{move_now}
 use Rattle.nm_slot.specs.Phases.{Phase, Moment, phase_now, column}
 use Rattle.nm_slot.specs.Phases.Phase.{At, Closing, Frozen, Passing}
 use Rattle.nm_slot.specs.SlotNow.{Stage, Offer, Left, Own, SlotStep, phase_of, phase_at, phase_away}
@@ -25,7 +24,7 @@ use Rattle.nm_slot.specs.SlotNow.Doing.{Serves, Closes, Froze}
 use Rattle.nm_slot.specs.SlotNow.Stage.{Away, Here}
 use Rattle.nm_slot.specs.SlotNow.SlotStep.{Applying, Installing}
 use Rattle.nm_slot.proofs.Freezes.{FreezeStands, freeze_of}
-use Rattle.nm_slot.proofs.HistoryFacts.{facts_of, begins_now}
+use Rattle.nm_slot.proofs.HistoryFacts.{facts_of}
 use Rattle.nm_slot.proofs.Inversions.{is_source}
 use Rattle.nm_slot.proofs.KeptHeld.{IsReady, is_ready}
 
@@ -128,5 +127,4 @@ is_whole home h dest number it = record {
 }
   where
     ready : IsReady (phase_now home.first h) (tables_now home h) dest number (own_now home.first h dest).held
-    ready = is_ready (phase_now home.first h) (begins_now h) (λ n. move_now h n) (λ s. own_now home.first h s) (tables_now home h) dest number
-        it.0.answered it.0.delivered.0 it.0.delivered.1 (facts_of home h it.1)
+    ready = is_ready (facts_of home h it.1) dest number it.0.delivered.1 it.0.delivered.0 it.0.answered

@@ -102,7 +102,7 @@ never_live p begins move own t s offer stage e a made facts = by_tests (is_offer
     by_tests false false f (Here doing state) e a =
         let at : source_of p ≡ s = ap source_of (is_source p t s doing state e).phase ∙ source_by s doing in
         let latest : (own s).known ≡ begins = ap (λ r. (own r).known) (sym at) ∙ facts.agreed.numbers.holder in
-        let is_begun : offer.number ≤ begins = began (source_of p) begins move own offer.number offer facts.agreed.numbers made in
+        let is_begun : offer.number ≤ begins = began facts.agreed.numbers offer.number offer made in
         above offer.number (own s).known f (omega (arith, latest, is_begun))
       where
         above : (n known : ℕ) → nat_le n known ≡ false → n ≤ known → ⊥
@@ -131,7 +131,8 @@ never_absent p begins move own t s n a handed goes facts = by_fate (move n).fate
     by_fate UnderWay e h = cc
     by_fate GivenUp e h = cc
     by_fate Handed e h =
-        let held : is_offer_of n (own s).held ≡ true = handed_to p begins move own t s n e goes facts in
+        let ready = handed_to facts s n goes e in
+        let held : is_offer_of n (own s).held ≡ true = ap (is_offer_of n) ready.holds ∙ eq-eqb ready.offer.number n ready.number in
         let not_held : is_offer_of n (own s).held ≡ false = parts.0 in
         cc
     by_fate Done e h =

@@ -214,7 +214,7 @@ none_installed : (p : Phase) (begins : ℕ) (move : ℕ → Move) (own : ℕ →
     → install.Now ≡ install_by n (own s) → is_handed (move n).fate ≡ true → (move n).dest ≡ s → Facts p begins move own t
     → AreOutAt p s passes → passes ≡ []
 none_installed p begins move own t s n passes a handed goes facts out =
-    subst (λ q. AreOutAt q s passes) (is_ready p begins move own t s n a handed goes facts).phase out
+    subst (λ q. AreOutAt q s passes) (is_ready facts s n goes handed a).phase out
 
 -- ---- a step
 

@@ -134,7 +134,7 @@ stage_follows p begins move own fs grants entries passes s (Committing n (Commit
 stage_follows p begins move own fs grants entries passes s (Abandoning (abandon.Back n)) a d facts =
     back_follows p (seen fs grants entries) s n (own s) (column p (seen fs grants entries) s) refl a
 stage_follows p begins move own fs grants entries passes s (Installing n install.Now) a d facts =
-    now_follows p (seen fs grants entries) s n (own s).held (column p (seen fs grants entries) s) (is_ready p begins move own (seen fs grants entries) s n a d.0 d.1 facts)
+    now_follows p (seen fs grants entries) s n (own s).held (column p (seen fs grants entries) s) (is_ready facts s n d.1 d.0 a)
 stage_follows p begins move own fs grants entries passes s step a d facts = same_column p (seen fs grants entries) s step refl
 
 -- a slot knows the destination of the move that is under way there

@@ -1,4 +1,4 @@
--- Steps at a destination keep the facts.
+-- An offer that is held, or comes again, keeps the facts.
 use Rattle.std.proofs.Common.{◌≡◌, ◌≢◌, ◌<◌, ◌≤◌, ℕ, true, false, refl, sym, subst, ap, ◌∙◌, Some, None, arith}
 use Rattle.nm_rules.specs.Seen.{Seen}
 use Rattle.nm_slot.specs.Moves.{Move, Fate}
@@ -47,6 +47,17 @@ offers_kept (Passing source dest number) begins move own new t kept offers =
       ready = kept.held dest (offer_now number t (own source)) offers.ready offers.latest (going_at begins number move Handed offers.latest offers.going refl);
     })
 
+-- a step at one server, whose slot keeps the epoch, the count and what is going
+pub kept_by : (source begins s : ℕ) (move : ℕ → Move) (own new : ℕ → Own) → (new s).epoch ≡ (own s).epoch → (new s).count ≡ (own s).count
+    → ((offer : Offer) → (own s).held ≡ Some offer → offer.number ≡ begins → is_going (move begins).fate ≡ true → (new s).held ≡ Some offer)
+    → IsKept source begins move own (put s new own)
+kept_by source begins s move own new epoch count held = record {
+  epoch = by_place (λ r o. o.epoch ≡ (own r).epoch) s new own epoch (λ r ne. refl) source;
+  count = by_place (λ r o. o.count ≡ (own r).count) s new own count (λ r ne. refl) source;
+  held = by_place (λ r o. (offer : Offer) → (own r).held ≡ Some offer → offer.number ≡ begins → is_going (move begins).fate ≡ true → o.held ≡ Some offer)
+      s new own held (λ r ne offer e latest going. e);
+}
+
 -- ---- an offer is held
 
 -- with the word that it is held
@@ -89,51 +100,46 @@ offers_prepared (Passing source dest number) begins move own t s n offer held ma
     (λ at. record { latest = at.latest; apart = at.apart; goes_to = at.goes_to; going = at.going; ready = at.ready })
     (λ k ne at. at) number offers
 
--- word that an offer is held
-pub prepared : (p : Phase) (begins : ℕ) (move : ℕ → Move) (own : ℕ → Own) (t : Seen) (s n : ℕ) (offer : Offer)
-    → (own s).held ≡ Some offer → (move n).offer ≡ Some offer → (move n).dest ≡ s
-    → Facts p begins move own t → Facts p begins (put n (λ k. prepared_move (move k)) move) own t
-prepared p begins move own t s n offer held made goes facts = record {
-  agreed = agreed_further (source_of p) begins n move (λ k. prepared_move (move k)) own (record {
-    began = began (source_of p) begins move own n offer facts.agreed.numbers made;
-    same_dest = refl;
-    keeps = λ o e. e;
-    bears = facts.agreed.numbers.offered n;
-    settled = facts.agreed.settled.settled n;
-    not_done = λ e. e;
-  }) facts.agreed;
-  offers = offers_prepared p begins move own t s n offer held made goes facts.offers;
-}
-
 abbrev pub own_holding : Offer → Own → Own
 own_holding offer own = record own { held = Some offer; known = offer.number }
 
--- a new offer is held
-pub accepted : (p : Phase) (begins : ℕ) (move : ℕ → Move) (own : ℕ → Own) (t : Seen) (s : ℕ) (offer : Offer)
-    → (move offer.number).offer ≡ Some offer → (move offer.number).dest ≡ s → (own s).known < offer.number
-    → Facts p begins move own t → Facts p begins move (put s (λ r. own_holding offer (own r)) own) t
-accepted p begins move own t s offer made goes new facts = record {
-  agreed = agreed_later (source_of p) begins s move own (λ r. own_holding offer (own r)) (record {
-    grows = omega (arith, new);
-    installed = λ n e k. e;
-    begun = is_begun;
-    held = λ o e. subst (λ (x : Offer). IsFor s offer.number x (move x.number)) (some_same offer o e) (record {
-      made = made;
-      goes_to = goes;
-      not_done = λ e. let past : IsRemembered offer.number (own s) = subst (λ d. IsRemembered offer.number (own d)) goes (facts.agreed.settled.remembered offer.number e) in
-          omega (arith, new, past.is_known);
-      is_known = omega arith;
-    });
-  }) facts.agreed;
-  offers = offers_kept p begins move own (put s (λ r. own_holding offer (own r)) own) t (record {
-    epoch = by_place (λ r o. o.epoch ≡ (own r).epoch) s (λ r. own_holding offer (own r)) own refl (λ r ne. refl) (source_of p);
-    count = by_place (λ r o. o.count ≡ (own r).count) s (λ r. own_holding offer (own r)) own refl (λ r ne. refl) (source_of p);
-    held = by_place (λ r o. (its : Offer) → (own r).held ≡ Some its → its.number ≡ begins → is_going (move begins).fate ≡ true → o.held ≡ Some its)
-        s (λ r. own_holding offer (own r)) own
-        (λ its e latest going. let before = facts.agreed.held.held s its e in absurd (omega (arith, new, is_begun, before.is_known, latest)))
-        (λ r ne its e latest going. e);
-  }) facts.offers;
-}
-  where
-    is_begun : offer.number ≤ begins
-    is_begun = began (source_of p) begins move own offer.number offer facts.agreed.numbers made
+module _ {p : Phase} {begins : ℕ} {move : ℕ → Move} {own : ℕ → Own} {t : Seen} (facts : Facts p begins move own t) where
+  -- word that an offer is held
+  pub prepared : (s n : ℕ) (offer : Offer) → (own s).held ≡ Some offer → (move n).offer ≡ Some offer → (move n).dest ≡ s
+      → Facts p begins (put n (λ k. prepared_move (move k)) move) own t
+  prepared s n offer held made goes = record {
+    agreed = agreed_further n (λ k. prepared_move (move k)) (record {
+      began = began facts.agreed.numbers n offer made;
+      same_dest = refl;
+      keeps = λ o e. e;
+      bears = facts.agreed.numbers.offered n;
+      settled = facts.agreed.settled.settled n;
+      not_done = λ e. e;
+    }) facts.agreed;
+    offers = offers_prepared p begins move own t s n offer held made goes facts.offers;
+  }
+
+  -- a new offer is held
+  pub accepted : (s : ℕ) (offer : Offer) → (move offer.number).offer ≡ Some offer → (move offer.number).dest ≡ s → (own s).known < offer.number
+      → Facts p begins move (put s (λ r. own_holding offer (own r)) own) t
+  accepted s offer made goes new = record {
+    agreed = agreed_later s (λ r. own_holding offer (own r)) (record {
+      grows = omega (arith, new);
+      installed = λ n e k. e;
+      begun = is_begun;
+      held = λ o e. subst (λ (x : Offer). IsFor s offer.number x (move x.number)) (some_same offer o e) (record {
+        made = made;
+        goes_to = goes;
+        not_done = λ e. let past : IsRemembered offer.number (own s) = subst (λ d. IsRemembered offer.number (own d)) goes (facts.agreed.settled.remembered offer.number e) in
+            omega (arith, new, past.is_known);
+        is_known = omega arith;
+      });
+    }) facts.agreed;
+    offers = offers_kept p begins move own (put s (λ r. own_holding offer (own r)) own) t
+        (kept_by (source_of p) begins s move own (λ r. own_holding offer (own r)) refl refl
+        (λ its e latest going. let before = facts.agreed.held.held s its e in absurd (omega (arith, new, is_begun, before.is_known, latest))))
+        facts.offers;
+  }
+    where
+      is_begun : offer.number ≤ begins
+      is_begun = began facts.agreed.numbers offer.number offer made

@@ -11,15 +11,14 @@ use Rattle.nm_slot.specs.Phases.Phase.{At, Passing}
 use Rattle.nm_slot.specs.SlotNow.{Offer, Own}
 use Rattle.nm_slot.proofs.Facts.{NumbersAgree, IsFor, IsRemembered, Agreed, is_going, Facts}
 use Rattle.nm_slot.proofs.Agreed.{agreed_later, numbers_further}
-use Rattle.nm_slot.proofs.StepsHeld.{offers_kept}
+use Rattle.nm_slot.proofs.StepsHeld.{offers_kept, kept_by}
 use Rattle.nm_slot.proofs.Updates.{put, by_place, put_there, put_elsewhere}
 
 -- ---- it was given up
 
-given_up_began : (source begins : ℕ) (move : ℕ → Move) (own : ℕ → Own) (n : ℕ) → NumbersAgree source begins move own
+given_up_began : {source begins : ℕ} {move : ℕ → Move} {own : ℕ → Own} (numbers : NumbersAgree source begins move own) (n : ℕ)
     → (move n).fate ≡ GivenUp → n ≤ begins
-given_up_began source begins move own n numbers over =
-    grind (arith, over, numbers.beyond n, ap (λ (m : Move). m.fate))
+given_up_began numbers n over = grind (arith, over, numbers.beyond n, ap (λ (m : Move). m.fate))
 
 -- an offer of the move that is going isn't told to be given up
 not_going : (begins n : ℕ) (move : ℕ → Move) (its : Offer) → (move n).fate ≡ GivenUp → its.number ≡ begins
@@ -36,39 +35,31 @@ known_longer : (s known more : ℕ) (offer : Offer) (move : Move) → known ≤ 
 known_longer s known more offer move le it =
     record { made = it.made; goes_to = it.goes_to; not_done = it.not_done; is_known = omega (arith, it.is_known) }
 
-pub withdrawn : (p : Phase) (begins : ℕ) (move : ℕ → Move) (own : ℕ → Own) (t : Seen) (s n : ℕ) (dropped : Bool)
-    → (move n).fate ≡ GivenUp → dropped ≡ is_offer_of n (own s).held
-    → Facts p begins move own t → Facts p begins move (put s (λ r. own_withdrawn dropped n (own r)) own) t
-withdrawn p begins move own t s n true over is_held facts = record {
-  agreed = agreed_later (source_of p) begins s move own (λ r. own_withdrawn true n (own r)) (record {
-    grows = omega arith;
-    installed = λ k e _. e;
-    begun = omega (arith, facts.agreed.numbers.known s, given_up_began (source_of p) begins move own n facts.agreed.numbers over);
-    held = λ o e. cc;
-  }) facts.agreed;
-  offers = offers_kept p begins move own (put s (λ r. own_withdrawn true n (own r)) own) t (record {
-    epoch = by_place (λ r o. o.epoch ≡ (own r).epoch) s (λ r. own_withdrawn true n (own r)) own refl (λ r ne. refl) (source_of p);
-    count = by_place (λ r o. o.count ≡ (own r).count) s (λ r. own_withdrawn true n (own r)) own refl (λ r ne. refl) (source_of p);
-    held = by_place (λ r o. (its : Offer) → (own r).held ≡ Some its → its.number ≡ begins → is_going (move begins).fate ≡ true → o.held ≡ Some its)
-        s (λ r. own_withdrawn true n (own r)) own
-        (λ its e latest going. absurd (not_going begins n move its over latest going (is_dropped n (own s).held its is_held e)))
-        (λ r ne its e latest going. e);
-  }) facts.offers;
-}
-withdrawn p begins move own t s n false over is_held facts = record {
-  agreed = agreed_later (source_of p) begins s move own (λ r. own_withdrawn false n (own r)) (record {
-    grows = omega arith;
-    installed = λ k e _. e;
-    begun = omega (arith, facts.agreed.numbers.known s, given_up_began (source_of p) begins move own n facts.agreed.numbers over);
-    held = λ o e. known_longer s (own s).known (max (own s).known n) o (move o.number) (omega arith) (facts.agreed.held.held s o e);
-  }) facts.agreed;
-  offers = offers_kept p begins move own (put s (λ r. own_withdrawn false n (own r)) own) t (record {
-    epoch = by_place (λ r o. o.epoch ≡ (own r).epoch) s (λ r. own_withdrawn false n (own r)) own refl (λ r ne. refl) (source_of p);
-    count = by_place (λ r o. o.count ≡ (own r).count) s (λ r. own_withdrawn false n (own r)) own refl (λ r ne. refl) (source_of p);
-    held = by_place (λ r o. (its : Offer) → (own r).held ≡ Some its → its.number ≡ begins → is_going (move begins).fate ≡ true → o.held ≡ Some its)
-        s (λ r. own_withdrawn false n (own r)) own (λ its e latest going. e) (λ r ne its e latest going. e);
-  }) facts.offers;
-}
+module _ {p : Phase} {begins : ℕ} {move : ℕ → Move} {own : ℕ → Own} {t : Seen} (facts : Facts p begins move own t) where
+  pub withdrawn : (s n : ℕ) (dropped : Bool) → (move n).fate ≡ GivenUp → dropped ≡ is_offer_of n (own s).held
+      → Facts p begins move (put s (λ r. own_withdrawn dropped n (own r)) own) t
+  withdrawn s n true over is_held = record {
+    agreed = agreed_later s (λ r. own_withdrawn true n (own r)) (record {
+      grows = omega arith;
+      installed = λ k e _. e;
+      begun = omega (arith, facts.agreed.numbers.known s, given_up_began facts.agreed.numbers n over);
+      held = λ o e. cc;
+    }) facts.agreed;
+    offers = offers_kept p begins move own (put s (λ r. own_withdrawn true n (own r)) own) t
+        (kept_by (source_of p) begins s move own (λ r. own_withdrawn true n (own r)) refl refl
+        (λ its e latest going. absurd (not_going begins n move its over latest going (is_dropped n (own s).held its is_held e))))
+        facts.offers;
+  }
+  withdrawn s n false over is_held = record {
+    agreed = agreed_later s (λ r. own_withdrawn false n (own r)) (record {
+      grows = omega arith;
+      installed = λ k e _. e;
+      begun = omega (arith, facts.agreed.numbers.known s, given_up_began facts.agreed.numbers n over);
+      held = λ o e. known_longer s (own s).known (max (own s).known n) o (move o.number) (omega arith) (facts.agreed.held.held s o e);
+    }) facts.agreed;
+    offers = offers_kept p begins move own (put s (λ r. own_withdrawn false n (own r)) own) t
+        (kept_by (source_of p) begins s move own (λ r. own_withdrawn false n (own r)) refl refl (λ its e latest going. e)) facts.offers;
+  }
 
 -- ---- it was handed over
 
@@ -85,11 +76,10 @@ for_another s r known number offer move ne goes it =
     subst (λ m. IsFor r known offer m) (sym (put_elsewhere number offer.number (λ k. done_move (move k)) move
     (λ e. ne (sym goes ∙ ap (λ k. (move k).dest) e ∙ it.goes_to)))) it
 
-pub installed : (source s number : ℕ) (begins : ℕ) (move : ℕ → Move) (own : ℕ → Own) (t : Seen) (offer : Offer)
+pub installed : {source s number begins : ℕ} {move : ℕ → Move} {own : ℕ → Own} {t : Seen} (facts : Facts (Passing source s number) begins move own t) (offer : Offer)
     → (own s).held ≡ Some offer → offer.number ≡ number
-    → Facts (Passing source s number) begins move own t
     → Facts (At s) begins (put number (λ k. done_move (move k)) move) (put s (λ r. own_serving number offer (own r)) own) t
-installed source s number begins move own t offer held its facts = record {
+installed {source = source} {s = s} {number = number} {begins = begins} {move = move} {own = own} facts offer held its = record {
   agreed = record {
     numbers = record { known = further.known; holder = ap (λ (o : Own). o.known) (put_there s serving own) ∙ is_latest; beyond = further.beyond; offered = further.offered };
     held = record {
@@ -117,7 +107,7 @@ installed source s number begins move own t offer held its facts = record {
     is_latest = omega (arith, facts.agreed.numbers.known s, (facts.agreed.held.held s offer held).is_known, its, facts.offers.latest)
 
     later : Agreed source begins move (put s serving own)
-    later = agreed_later source begins s move own serving (record {
+    later = agreed_later s serving (record {
       grows = omega arith;
       installed = λ n e k. omega (arith, k, is_latest, facts.offers.latest);
       begun = facts.agreed.numbers.known s;
@@ -125,4 +115,4 @@ installed source s number begins move own t offer held its facts = record {
     }) facts.agreed
 
     further : NumbersAgree source begins (put number done move) (put s serving own)
-    further = numbers_further source begins number move done (put s serving own) (omega (arith, facts.offers.latest)) (facts.agreed.numbers.offered number) later.numbers
+    further = numbers_further number done (omega (arith, facts.offers.latest)) (facts.agreed.numbers.offered number) later.numbers
