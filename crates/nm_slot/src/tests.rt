@@ -1,5 +1,4 @@
-//! The calls on a slot in each phase. The expected answers are those of the table in docs/DEFINITIONS.md, "A file system
-//! at a server".
+//! The calls on a slot in each phase. The expected answers are those of the table of calls in docs/DEFINITIONS.md.
 ghost use Rattle.std.specs.Prelude.{◌≡◌, ◌≤◌, ◌^◌, IfOk};
 ghost use Rattle.nm_slot.specs.Images.{MayBeOffered};
 
@@ -137,38 +136,52 @@ struct Row {
     withdraw: (bool, Phase),
 }
 
-fn check_source(rt: &impl Abort, alloc: Global, made: Made, row: &Row) -> Result<(), Fail> {
+fn begun(rt: &impl Abort, alloc: Global, made: Made) -> Result<(Begin, Phase), Fail> {
+    let (here, dest) = (server(0)?, server(1)?);
     let mut slot = slot_in(rt, alloc, made)?;
-    let begun = slot.begin(server(0)?, server(1)?);
-    assert_eq!(rt; (begun, slot.phase()), row.begin);
-    let mut slot = slot_in(rt, alloc, made)?;
-    let frozen = slot.freeze();
-    assert_eq!(rt; (frozen, slot.phase()), row.freeze);
-    let mut slot = slot_in(rt, alloc, made)?;
-    let handed = told(&slot.commit(MoveNum::new(1)));
-    assert_eq!(rt; (handed, slot.phase()), row.commit);
-    let mut slot = slot_in(rt, alloc, made)?;
-    let back = slot.abandon();
-    assert_eq!(rt; (back, slot.phase()), row.abandon);
-    Ok(())
+    Ok((slot.begin(here, dest), slot.phase()))
 }
 
-fn check_destination(rt: &impl Abort, alloc: Global, made: Made, row: &Row) -> Result<(), Fail> {
+fn frozen(rt: &impl Abort, alloc: Global, made: Made) -> Result<(Freeze, Phase), Fail> {
     let mut slot = slot_in(rt, alloc, made)?;
-    let accepted = accept(rt, &mut slot, &image(alloc, 2, 1, 0)?)?;
-    assert_eq!(rt; (accepted, slot.phase()), row.accept);
+    Ok((slot.freeze(), slot.phase()))
+}
+
+fn committed(rt: &impl Abort, alloc: Global, made: Made) -> Result<(Handed, Phase), Fail> {
     let mut slot = slot_in(rt, alloc, made)?;
-    let installed = slot.install(MoveNum::new(1));
-    assert_eq!(rt; (installed, slot.phase()), row.install);
+    Ok((told(&slot.commit(MoveNum::new(1))), slot.phase()))
+}
+
+fn abandoned(rt: &impl Abort, alloc: Global, made: Made) -> Result<(Abandon, Phase), Fail> {
     let mut slot = slot_in(rt, alloc, made)?;
-    let dropped = slot.withdraw(MoveNum::new(1));
-    assert_eq!(rt; (dropped, slot.phase()), row.withdraw);
-    Ok(())
+    Ok((slot.abandon(), slot.phase()))
+}
+
+fn accepted(rt: &impl Abort, alloc: Global, made: Made) -> Result<(Accept, Phase), Fail> {
+    let offer = image(alloc, 2, 1, 0)?;
+    let mut slot = slot_in(rt, alloc, made)?;
+    Ok((accept(rt, &mut slot, &offer)?, slot.phase()))
+}
+
+fn installed(rt: &impl Abort, alloc: Global, made: Made) -> Result<(Install, Phase), Fail> {
+    let mut slot = slot_in(rt, alloc, made)?;
+    Ok((slot.install(MoveNum::new(1)), slot.phase()))
+}
+
+fn withdrawn(rt: &impl Abort, alloc: Global, made: Made) -> Result<(bool, Phase), Fail> {
+    let mut slot = slot_in(rt, alloc, made)?;
+    Ok((slot.withdraw(MoveNum::new(1)), slot.phase()))
 }
 
 fn check(rt: &impl Abort, alloc: Global, made: Made, row: &Row) -> Result<(), Fail> {
-    check_source(rt, alloc, made, row)?;
-    check_destination(rt, alloc, made, row)
+    assert_eq!(rt; begun(rt, alloc, made)?, row.begin);
+    assert_eq!(rt; frozen(rt, alloc, made)?, row.freeze);
+    assert_eq!(rt; committed(rt, alloc, made)?, row.commit);
+    assert_eq!(rt; abandoned(rt, alloc, made)?, row.abandon);
+    assert_eq!(rt; accepted(rt, alloc, made)?, row.accept);
+    assert_eq!(rt; installed(rt, alloc, made)?, row.install);
+    assert_eq!(rt; withdrawn(rt, alloc, made)?, row.withdraw);
+    Ok(())
 }
 
 // The offers of the moves 1 and 2, as phases.
@@ -282,21 +295,22 @@ fn door_of(answer: &Enter) -> Door {
     }
 }
 
+fn door_in(rt: &impl Abort, alloc: Global, made: Made) -> Result<Door, Fail> {
+    Ok(door_of(&slot_in(rt, alloc, made)?.enter()))
+}
+
 #[test]
 fn the_door_in_each_phase(rt: HostRuntime) -> Result<(), Fail> {
     let alloc = rt.alloc();
-    let never = slot_in(&rt, alloc, Made::Never)?.enter();
-    assert_eq!(rt; door_of(&never), Door::Unknown);
-    let serving = slot_in(&rt, alloc, Made::Serving)?.enter();
-    assert_eq!(rt; door_of(&serving), Door::Entered { epoch: 0 });
-    let closing = slot_in(&rt, alloc, Made::Closing)?.enter();
-    assert_eq!(rt; door_of(&closing), Door::Delay);
-    let frozen = slot_in(&rt, alloc, Made::Frozen)?.enter();
-    assert_eq!(rt; door_of(&frozen), Door::Delay);
-    let gone = slot_in(&rt, alloc, Made::Gone)?.enter();
-    assert_eq!(rt; door_of(&gone), Door::Moved(1));
-    let incoming = slot_in(&rt, alloc, Made::Incoming)?.enter();
-    assert_eq!(rt; door_of(&incoming), Door::Delay);
+    assert_eq!(rt; door_in(&rt, alloc, Made::Never)?, Door::Unknown);
+    assert_eq!(rt;
+        door_in(&rt, alloc, Made::Serving)?,
+        Door::Entered { epoch: 0 }
+    );
+    assert_eq!(rt; door_in(&rt, alloc, Made::Closing)?, Door::Delay);
+    assert_eq!(rt; door_in(&rt, alloc, Made::Frozen)?, Door::Delay);
+    assert_eq!(rt; door_in(&rt, alloc, Made::Gone)?, Door::Moved(1));
+    assert_eq!(rt; door_in(&rt, alloc, Made::Incoming)?, Door::Delay);
     Ok(())
 }
 
@@ -312,30 +326,31 @@ fn entered(answer: Enter) -> Result<FsPass, Fail> {
 #[test]
 fn a_move_waits_for_the_passes_that_are_out(rt: HostRuntime) -> Result<(), Fail> {
     let alloc = rt.alloc();
+    let (here, dest) = (server(0)?, server(2)?);
     let mut slot = slot_in(&rt, alloc, Made::Serving)?;
     let first = entered(slot.enter())?;
     let second = entered(slot.enter())?;
-    assert_eq!(rt; slot.begin(server(0)?, server(0)?), Begin::Same);
-    assert_eq!(rt;
-        slot.begin(server(0)?, server(2)?),
-        Begin::Begun(MoveNum::new(1))
-    );
+    assert_eq!(rt; slot.begin(here, here), Begin::Same);
+    assert_eq!(rt; slot.begin(here, dest), Begin::Begun(MoveNum::new(1)));
     assert_eq!(rt; slot.freeze(), Freeze::Waiting { passes: 2 });
     slot.leave(first);
     assert_eq!(rt; slot.freeze(), Freeze::Waiting { passes: 1 });
-    assert!(rt; slot.image()?.is_none());
     slot.leave(second);
     assert_eq!(rt; slot.freeze(), Freeze::Frozen(MoveNum::new(1)));
-    assert_eq!(rt; slot.abandon(), Abandon::Back(MoveNum::new(1)));
-    // The next move has the next number.
-    assert_eq!(rt;
-        slot.begin(server(0)?, server(1)?),
-        Begin::Begun(MoveNum::new(2))
-    );
-    assert_eq!(rt; slot.freeze(), Freeze::Frozen(MoveNum::new(2)));
-    assert_eq!(rt; told(&slot.commit(MoveNum::new(1))), Handed::Dead(2));
-    assert_eq!(rt; told(&slot.commit(MoveNum::new(2))), Handed::Committed(0));
-    assert_eq!(rt; told(&slot.commit(MoveNum::new(1))), Handed::Dead(2));
+    Ok(())
+}
+
+#[test]
+fn an_old_move_is_dead(rt: HostRuntime) -> Result<(), Fail> {
+    let (one, two) = (MoveNum::new(1), MoveNum::new(2));
+    let (here, dest) = (server(0)?, server(1)?);
+    let mut slot = slot_in(&rt, rt.alloc(), Made::Frozen)?;
+    assert_eq!(rt; slot.abandon(), Abandon::Back(one));
+    assert_eq!(rt; slot.begin(here, dest), Begin::Begun(two));
+    assert_eq!(rt; slot.freeze(), Freeze::Frozen(two));
+    assert_eq!(rt; told(&slot.commit(one)), Handed::Dead(2));
+    assert_eq!(rt; told(&slot.commit(two)), Handed::Committed(0));
+    assert_eq!(rt; told(&slot.commit(one)), Handed::Dead(2));
     Ok(())
 }
 
@@ -386,59 +401,110 @@ fn call(slot: &mut Slot, pass: &FsPass, call: &Call) -> Result<Called, Fail> {
     })
 }
 
+// Makes a call with a pass that is asked for, and gives it back.
+fn call_once(slot: &mut Slot, asked: &Call) -> Result<Called, Fail> {
+    let pass = entered(slot.enter())?;
+    let called = call(slot, &pass, asked)?;
+    slot.leave(pass);
+    Ok(called)
+}
+
 #[test]
-fn the_state_goes_on_at_the_destination(rt: HostRuntime) -> Result<(), Fail> {
+fn calls_are_made_until_the_freeze(rt: HostRuntime) -> Result<(), Fail> {
     let alloc = rt.alloc();
-    let (a, b) = (client(b"A")?, client(b"B")?);
-    let mut source = slot_in(&rt, alloc, Made::Serving)?;
-    let mut dest = slot_in(&rt, alloc, Made::Never)?;
-    let pass = entered(source.enter())?;
+    let (here, dest) = (server(0)?, server(1)?);
+    let asked = open(alloc, client(b"A")?)?;
+    let pass = FsPass {
+        fs: x()?,
+        epoch: Epoch::new(0),
+    };
+    let mut slot = slot_in(&rt, alloc, Made::Serving)?;
     assert_eq!(rt;
-        call(&mut source, &pass, &open(alloc, b)?)?,
+        call(&mut slot, &pass, &asked)?,
+        Called::Done(1, OpStatus::Nfs4Ok)
+    );
+    assert_eq!(rt; slot.begin(here, dest), Begin::Begun(MoveNum::new(1)));
+    assert_eq!(rt;
+        call(&mut slot, &pass, &asked)?,
+        Called::Done(2, OpStatus::Nfs4Ok)
+    );
+    assert_eq!(rt; slot.freeze(), Freeze::Frozen(MoveNum::new(1)));
+    assert_eq!(rt; call(&mut slot, &pass, &asked)?, Called::Strayed(0, 0));
+    Ok(())
+}
+
+// A slot that is frozen for its move 1, in which B and then A have a file open.
+fn opened_and_frozen(rt: &impl Abort, alloc: Global) -> Result<Slot, Fail> {
+    let (here, dest) = (server(0)?, server(1)?);
+    let (first, second) = (open(alloc, client(b"B")?)?, open(alloc, client(b"A")?)?);
+    let mut slot = slot_in(rt, alloc, Made::Serving)?;
+    assert_eq!(rt;
+        call_once(&mut slot, &first)?,
         Called::Done(1, OpStatus::Nfs4Ok)
     );
     assert_eq!(rt;
-        source.begin(server(0)?, server(1)?),
-        Begin::Begun(MoveNum::new(1))
-    );
-    // Calls under way are still made.
-    assert_eq!(rt;
-        call(&mut source, &pass, &open(alloc, a)?)?,
+        call_once(&mut slot, &second)?,
         Called::Done(2, OpStatus::Nfs4Ok)
     );
-    source.leave(pass);
-    assert_eq!(rt; source.freeze(), Freeze::Frozen(MoveNum::new(1)));
-    assert_eq!(rt; offer(&rt, &source, &mut dest)?, Accept::Held);
-    assert_eq!(rt; offer(&rt, &source, &mut dest)?, Accept::Held);
-    assert_eq!(rt; dest.table()?.ok_or("an offer is held")?.items().len(), 2);
-    match source.commit(MoveNum::new(1)) {
+    assert_eq!(rt; slot.begin(here, dest), Begin::Begun(MoveNum::new(1)));
+    assert_eq!(rt; slot.freeze(), Freeze::Frozen(MoveNum::new(1)));
+    Ok(slot)
+}
+
+#[test]
+fn a_commit_lists_who_holds_something(rt: HostRuntime) -> Result<(), Fail> {
+    let (a, b) = (client(b"A")?, client(b"B")?);
+    let mut slot = opened_and_frozen(&rt, rt.alloc())?;
+    match slot.commit(MoveNum::new(1)) {
         Commit::Committed(holders) => {
             assert_eq!(rt; holders.len(), 2);
-            assert!(rt; holders[0] == a && holders[1] == b);
+            assert!(rt; holders[0].is_same(&a));
+            assert!(rt; holders[1].is_same(&b));
+            Ok(())
         }
-        Commit::Again | Commit::Dead { .. } => return Err("it is handed over".into()),
+        Commit::Again | Commit::Dead { .. } => Err("it is handed over".into()),
     }
-    assert!(rt; source.table()?.is_none());
+}
+
+fn rows(slot: &Slot) -> Result<Option<usize>, Fail> {
+    match slot.table()? {
+        Some(table) => Ok(Some(table.items().len())),
+        None => Ok(None),
+    }
+}
+
+#[test]
+fn the_state_goes_on_at_the_destination(rt: HostRuntime) -> Result<(), Fail> {
+    let alloc = rt.alloc();
+    let asked = open(alloc, client(b"A")?)?;
+    let source = opened_and_frozen(&rt, alloc)?;
+    let mut dest = slot_in(&rt, alloc, Made::Never)?;
+    assert_eq!(rt; rows(&dest)?, None);
+    assert_eq!(rt; offer(&rt, &source, &mut dest)?, Accept::Held);
+    assert_eq!(rt; offer(&rt, &source, &mut dest)?, Accept::Held);
+    assert_eq!(rt; rows(&dest)?, Some(2));
     assert_eq!(rt; dest.install(MoveNum::new(1)), Install::Now);
     assert_eq!(rt; dest.install(MoveNum::new(1)), Install::Already);
-    let late = accept(&rt, &mut dest, &image(alloc, 1, 1, 0)?)?;
-    assert_eq!(rt;
-        late,
-        Accept::Old {
-            known: MoveNum::new(1)
-        }
-    );
     assert_eq!(rt; (dest.epoch().number(), dest.count()), (1, 2));
-    let pass = entered(dest.enter())?;
+    assert_eq!(rt; rows(&dest)?, Some(2));
     assert_eq!(rt;
-        call(&mut dest, &pass, &open(alloc, a)?)?,
+        call_once(&mut dest, &asked)?,
         Called::Done(3, OpStatus::Nfs4Ok)
     );
-    assert_eq!(rt;
-        call(&mut source, &pass, &open(alloc, a)?)?,
-        Called::Strayed(1, 0)
-    );
+    // A pass of the source's epoch is none here.
+    let pass = FsPass {
+        fs: x()?,
+        epoch: Epoch::new(0),
+    };
+    assert_eq!(rt; call(&mut dest, &pass, &asked)?, Called::Strayed(0, 1));
     Ok(())
+}
+
+fn accept_of(rt: &impl Abort, alloc: Global, slot: &mut Slot, number: u64) -> Result<Accept, Fail>
+    requires { number ≤ 2 ^ 63 }
+{
+    let offer = image(alloc, number, 1, 0)?;
+    Ok(accept(rt, slot, &offer)?)
 }
 
 #[test]
@@ -447,19 +513,12 @@ fn a_withdrawn_number_is_known(rt: HostRuntime) -> Result<(), Fail> {
     let mut slot = slot_in(&rt, alloc, Made::Never)?;
     assert!(rt; !slot.withdraw(MoveNum::new(5)));
     assert_eq!(rt; slot.known().number(), 5);
-    let old = accept(&rt, &mut slot, &image(alloc, 4, 1, 0)?)?;
-    assert_eq!(rt;
-        old,
-        Accept::Old {
-            known: MoveNum::new(5)
-        }
-    );
-    let new = accept(&rt, &mut slot, &image(alloc, 6, 1, 0)?)?;
-    assert_eq!(rt; new, Accept::Held);
+    let known = MoveNum::new(5);
+    assert_eq!(rt; accept_of(&rt, alloc, &mut slot, 4)?, Accept::Old { known });
+    assert_eq!(rt; accept_of(&rt, alloc, &mut slot, 6)?, Accept::Held);
     // A late word of a lower move drops nothing, and lowers nothing.
     assert!(rt; !slot.withdraw(MoveNum::new(5)));
-    assert_eq!(rt; slot.phase(), incoming(6));
-    assert_eq!(rt; slot.known().number(), 6);
+    assert_eq!(rt; (slot.phase(), slot.known().number()), (incoming(6), 6));
     Ok(())
 }
 
@@ -482,35 +541,51 @@ fn moved_here(
     Ok(slot)
 }
 
-#[test]
-fn numbers_end_at_their_last(rt: HostRuntime) -> Result<(), Fail> {
-    let alloc = rt.alloc();
+fn begun_after(
+    rt: &impl Abort,
+    alloc: Global,
+    number: u64,
+    epoch: u64,
+    count: u64,
+) -> Result<Begin, Fail>
+    requires number { number ≤ 2 ^ 63 }
+    requires epoch { epoch ≤ 2 ^ 63 }
+    requires count { count ≤ 2 ^ 63 }
+{
     let (here, dest) = (server(0)?, server(1)?);
-    let mut by_number = moved_here(&rt, alloc, END, 1, 0)?;
-    assert_eq!(rt; by_number.begin(here, dest), Begin::Last);
-    let mut last_number = moved_here(&rt, alloc, END - 1, 1, 0)?;
+    Ok(moved_here(rt, alloc, number, epoch, count)?.begin(here, dest))
+}
+
+#[test]
+fn a_move_needs_next_numbers(rt: HostRuntime) -> Result<(), Fail> {
+    let alloc = rt.alloc();
+    assert_eq!(rt; begun_after(&rt, alloc, END, 1, 0)?, Begin::Last);
     assert_eq!(rt;
-        last_number.begin(here, dest),
+        begun_after(&rt, alloc, END - 1, 1, 0)?,
         Begin::Begun(MoveNum::new(END))
     );
-    let mut by_epoch = moved_here(&rt, alloc, 1, END, 0)?;
-    assert_eq!(rt; by_epoch.begin(here, dest), Begin::Last);
-    let mut last_count = moved_here(&rt, alloc, 1, 1, END)?;
-    let pass = entered(last_count.enter())?;
-    let a = client(b"A")?;
+    assert_eq!(rt; begun_after(&rt, alloc, 1, END, 0)?, Begin::Last);
     assert_eq!(rt;
-        call(&mut last_count, &pass, &open(alloc, a)?)?,
-        Called::Last(END)
+        begun_after(&rt, alloc, 1, END - 1, 0)?,
+        Begin::Begun(MoveNum::new(2))
     );
-    assert_eq!(rt; last_count.begin(here, dest), Begin::Begun(MoveNum::new(2)));
+    assert_eq!(rt;
+        begun_after(&rt, alloc, 1, 1, END)?,
+        Begin::Begun(MoveNum::new(2))
+    );
+    Ok(())
+}
+
+#[test]
+fn the_last_entry_leaves_room_for_ends(rt: HostRuntime) -> Result<(), Fail> {
+    let alloc = rt.alloc();
     let few = END - (1 << 17);
-    let mut full = moved_here(&rt, alloc, 1, 1, few - 1)?;
-    let pass = entered(full.enter())?;
-    let last = call(&mut full, &pass, &open(alloc, a)?)?;
-    assert_eq!(rt; last, Called::Done(few, OpStatus::Nfs4Ok));
+    let asked = open(alloc, client(b"A")?)?;
+    let mut slot = moved_here(&rt, alloc, 1, 1, few - 1)?;
     assert_eq!(rt;
-        call(&mut full, &pass, &open(alloc, a)?)?,
-        Called::Last(few)
+        call_once(&mut slot, &asked)?,
+        Called::Done(few, OpStatus::Nfs4Ok)
     );
+    assert_eq!(rt; call_once(&mut slot, &asked)?, Called::Last(few));
     Ok(())
 }
