@@ -102,7 +102,7 @@ knock_same n further further' f t s enter.Delay same stands e =
 knock_same n further further' f t s enter.Unknown same stands e =
     record { file = entered_stands n f t s enter.Unknown stands e; server = refl; door = refl; inside = tt }
 
-pub knocks_same : (k n : ℕ) (f : FileNow) (t : FileTables) (s : ℕ) → Stands n f t → IsKnocked n (knocks k f s) (knocks_to k t s)
+knocks_same : (k n : ℕ) (f : FileNow) (t : FileTables) (s : ℕ) → Stands n f t → IsKnocked n (knocks k f s) (knocks_to k t s)
 unfolding knocks knocks_to
 knocks_same zero n f t s stands = record { file = stands; server = refl; door = refl; inside = tt }
 knocks_same (suc k) n f t s stands =

@@ -24,7 +24,7 @@ use Rattle.nm_short.proofs.Standing.{Stands}
 
 -- ---- the text
 
-pub text_same : (head : Head) (r : RunNow) (t : TablesNow) (lines : List Line) → All (IsRun head) lines → RunStands (length head.servers) r t
+text_same : (head : Head) (r : RunNow) (t : TablesNow) (lines : List Line) → All (IsRun head) lines → RunStands (length head.servers) r t
     → text_from head t lines ≡ text_of (reports head r lines)
 unfolding text_from reports
 text_same head r t [] fits run = refl
