@@ -40,9 +40,9 @@ source_same k s (Installing its install.Now) move e = by_number its k (λ m. m.s
 source_same k s _ move e = refl
 
 -- a move that began here began at its source
-began_at : (q dest number s : ℕ) (own : ℕ → Own) (move : ℕ → Move) (step : SlotStep) → s ≡ q → BeganThere (after_at_source (At q) step) (move_next step s move)
-began_at q dest number s own move (Beginning here to (begin.Begun its)) e = rw (eq-eqb its its refl) e
-began_at q dest number s own move _ e = tt
+began_at : (q s : ℕ) (move : ℕ → Move) (step : SlotStep) → s ≡ q → BeganThere (after_at_source (At q) step) (move_next step s move)
+began_at q s move (Beginning here to (begin.Begun its)) e = rw (eq-eqb its its refl) e
+began_at q s move _ e = tt
 
 there_at_source : (p : Phase) (move move' : ℕ → Move) (step : SlotStep) → is_under_way p ≡ true → ((k : ℕ) → (move' k).source ≡ (move k).source)
     → BeganThere p move → BeganThere (after_at_source p step) move'
@@ -108,7 +108,7 @@ pub there_next : (fs : ℕ) (p : Phase) (own : ℕ → Own) (move : ℕ → Move
 there_next fs (At q) own move t s step a there = by_test (s == q) refl
   where
     by_test : (b : Bool) → (s == q) ≡ b → BeganThere (cond b (after_at_source (At q) step) (At q)) (move_next step s move)
-    by_test true e = began_at q 0 0 s own move step (eqb-true s q e)
+    by_test true e = began_at q s move step (eqb-true s q e)
     by_test false e = tt
 there_next fs (Closing q dest number) own move t s step a there = there_under_way fs (Closing q dest number) own move t s step a refl there
 there_next fs (Frozen q dest number) own move t s step a there = there_under_way fs (Frozen q dest number) own move t s step a refl there

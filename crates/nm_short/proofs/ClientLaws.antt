@@ -102,7 +102,7 @@ knock_same n further further' f t s enter.Delay same stands e =
 knock_same n further further' f t s enter.Unknown same stands e =
     record { file = entered_stands n f t s enter.Unknown stands e; server = refl; door = refl; inside = tt }
 
-pub knocks_same : (k n : ℕ) (f : FileNow) (t : FileTables) (s : ℕ) → Stands n f t → IsKnocked n (knocks k f s) (knocks_to k t s)
+knocks_same : (k n : ℕ) (f : FileNow) (t : FileTables) (s : ℕ) → Stands n f t → IsKnocked n (knocks k f s) (knocks_to k t s)
 unfolding knocks knocks_to
 knocks_same zero n f t s stands = record { file = stands; server = refl; door = refl; inside = tt }
 knocks_same (suc k) n f t s stands =
@@ -123,10 +123,10 @@ calls_same n f t s epoch client act call known stands below out =
     let f' : FileNow = did f s (Applying epoch call Pass a) in
     let t' : FileTables = stepped t s (Applying epoch call Pass a) in
     let after : Stands n f' t' = plain_stands n f t s (Applying epoch call Pass a) stands (record { answered = refl; delivered = out })
-        (kept_inside n f t s (Applying epoch call Pass a) stands below) tt refl in
+    (kept_inside n f t s (Applying epoch call Pass a) stands below) tt refl in
     let left : Stands n (did f' s (Leaving epoch)) (stepped t' s (Leaving epoch)) =
-        plain_stands n f' t' s (Leaving epoch) after (record { answered = tt; delivered = ap (is_out epoch) (apply_out f s epoch call a) ∙ out })
-        (kept_inside n f' t' s (Leaving epoch) after below) tt refl in
+    plain_stands n f' t' s (Leaving epoch) after (record { answered = tt; delivered = ap (is_out epoch) (apply_out f s epoch call a) ∙ out })
+    (kept_inside n f' t' s (Leaving epoch) after below) tt refl in
     subst (λ v. IsTried n (calls_at f s epoch client act call known) (record {
       file = stepped (stepped t s (Applying epoch call Pass (apply_answer v epoch call Pass))) s (Leaving epoch);
       known = learned client act (reply_of call (apply_answer v epoch call Pass)) (record known { in_hand = put_down client known.in_hand });
@@ -146,22 +146,22 @@ door_same n f t s (Some enter.Unknown) client act call known stands inside = rec
 -- after the knocks
 knocked_same : (n fs client : ℕ) (act : Action) (call : Call) (known : Known) (knocked : Knocked) (to : KnockedTo) → IsKnocked n knocked to
     → IsTried n (at_door knocked.file knocked.server knocked.door client act call (record known { places = sent_to client fs knocked.server known.places }))
-      (door_to to.file to.server to.door client act call (record known { places = sent_to client fs to.server known.places }))
+    (door_to to.file to.server to.door client act call (record known { places = sent_to client fs to.server known.places }))
 knocked_same n fs client act call known knocked to same =
     subst (λ s. IsTried n (at_door knocked.file knocked.server knocked.door client act call (record known { places = sent_to client fs knocked.server known.places }))
-        (door_to to.file s to.door client act call (record known { places = sent_to client fs s known.places }))) (sym same.server)
+    (door_to to.file s to.door client act call (record known { places = sent_to client fs s known.places }))) (sym same.server)
     (subst (λ door. IsTried n (at_door knocked.file knocked.server knocked.door client act call (record known { places = sent_to client fs knocked.server known.places }))
-        (door_to to.file knocked.server door client act call (record known { places = sent_to client fs knocked.server known.places }))) (sym same.door)
+    (door_to to.file knocked.server door client act call (record known { places = sent_to client fs knocked.server known.places }))) (sym same.door)
     (door_same n knocked.file to.file knocked.server knocked.door client act call (record known { places = sent_to client fs knocked.server known.places }) same.file same.inside))
 
 -- so many knocks, from where the client believes it to be
 tries_by : (k n : ℕ) (f : FileNow) (t : FileTables) (fs first client : ℕ) (act : Action) (call : Call) (known : Known) → Stands n f t
     → IsTried n (at_door (knocks k f (place_of client fs first known.places)).file (knocks k f (place_of client fs first known.places)).server
-        (knocks k f (place_of client fs first known.places)).door client act call
-        (record known { places = sent_to client fs (knocks k f (place_of client fs first known.places)).server known.places }))
-      (door_to (knocks_to k t (place_of client fs first known.places)).file (knocks_to k t (place_of client fs first known.places)).server
-        (knocks_to k t (place_of client fs first known.places)).door client act call
-        (record known { places = sent_to client fs (knocks_to k t (place_of client fs first known.places)).server known.places }))
+    (knocks k f (place_of client fs first known.places)).door client act call
+    (record known { places = sent_to client fs (knocks k f (place_of client fs first known.places)).server known.places }))
+    (door_to (knocks_to k t (place_of client fs first known.places)).file (knocks_to k t (place_of client fs first known.places)).server
+    (knocks_to k t (place_of client fs first known.places)).door client act call
+    (record known { places = sent_to client fs (knocks_to k t (place_of client fs first known.places)).server known.places }))
 tries_by k n f t fs first client act call known stands =
     knocked_same n fs client act call known (knocks k f (place_of client fs first known.places)) (knocks_to k t (place_of client fs first known.places))
     (knocks_same k n f t (place_of client fs first known.places) stands)
@@ -171,11 +171,11 @@ pub tries_same : (n : ℕ) (f : FileNow) (t : FileTables) (client : ℕ) (act : 
 unfolding tries tries_to
 tries_same n f t client act call known stands =
     subst (λ fs. IsTried n (tries f client act call known)
-      (door_to (knocks_to requests_limit t (place_of client fs t.first known.places)).file (knocks_to requests_limit t (place_of client fs t.first known.places)).server
-        (knocks_to requests_limit t (place_of client fs t.first known.places)).door client act call
-        (record known { places = sent_to client fs (knocks_to requests_limit t (place_of client fs t.first known.places)).server known.places }))) (sym stands.fs)
+    (door_to (knocks_to requests_limit t (place_of client fs t.first known.places)).file (knocks_to requests_limit t (place_of client fs t.first known.places)).server
+    (knocks_to requests_limit t (place_of client fs t.first known.places)).door client act call
+    (record known { places = sent_to client fs (knocks_to requests_limit t (place_of client fs t.first known.places)).server known.places }))) (sym stands.fs)
     (subst (λ first. IsTried n (tries f client act call known)
-      (door_to (knocks_to requests_limit t (place_of client f.home.fs first known.places)).file (knocks_to requests_limit t (place_of client f.home.fs first known.places)).server
-        (knocks_to requests_limit t (place_of client f.home.fs first known.places)).door client act call
-        (record known { places = sent_to client f.home.fs (knocks_to requests_limit t (place_of client f.home.fs first known.places)).server known.places }))) (sym stands.first)
+    (door_to (knocks_to requests_limit t (place_of client f.home.fs first known.places)).file (knocks_to requests_limit t (place_of client f.home.fs first known.places)).server
+    (knocks_to requests_limit t (place_of client f.home.fs first known.places)).door client act call
+    (record known { places = sent_to client f.home.fs (knocks_to requests_limit t (place_of client f.home.fs first known.places)).server known.places }))) (sym stands.first)
     (tries_by requests_limit n f t f.home.fs f.home.first client act call known stands))

@@ -85,7 +85,7 @@ accept_same : (n : ℕ) (head : Head) (f : FileNow) (t : FileTables) (x : Sent) 
     → d ≡ (move_now f.moments x.offer.number).dest → Stands n f t → Comes f d (Accepting x.offer a)
     → Stands n (did f d (Accepting x.offer a)) (stepped t d (Accepting x.offer a))
     → IsWent n (after_accept head (did f d (Accepting x.offer a)) x.source x.offer.number a)
-      (accept_to head (stepped t d (Accepting x.offer a)) (record { source = x.source; dest = d; offer = x.offer }) a)
+    (accept_to head (stepped t d (Accepting x.offer a)) (record { source = x.source; dest = d; offer = x.offer }) a)
 unfolding after_accept accept_to
 accept_same n head f t x d accept.Held latest at stands comes after =
     let number : ℕ = x.offer.number in
@@ -94,7 +94,7 @@ accept_same n head f t x d accept.Held latest at stands comes after =
     let before = (also_of f.home f.moments stands.history).was_sent x latest in
     let now = (also_of f'.home f'.moments after.history).was_sent x (accept_sends f d x.offer accept.Held ∙ latest) in
     let goes : d ≡ (move_now f'.moments number).dest =
-        at ∙ sym (goes_same n f t d (Accepting x.offer accept.Held) stands comes number (offered_began (move_now f.moments number) x.offer before.offer)) in
+    at ∙ sym (goes_same n f t d (Accepting x.offer accept.Held) stands comes number (offered_began (move_now f.moments number) x.offer before.offer)) in
     well_same n head (commits_at f' x.source number) (commits_in t' (record { source = x.source; dest = d; offer = x.offer }))
     (committed_stands n f' t' (record { source = x.source; dest = d; offer = x.offer }) after (accept_prepared f d x.offer) now.source goes
     (offered_began (move_now f'.moments number) x.offer now.offer))
@@ -111,7 +111,7 @@ offer_delivered n head f t (Some x) latest stands =
     let was = (also_of f.home f.moments stands.history).was_sent x latest in
     let comes : Comes f d (Accepting x.offer a) = record { answered = refl; delivered = (was.offer, refl) } in
     subst (λ v. IsWent n (delivers_offer head f (Some x)) (accept_to head (stepped t d (Accepting x.offer (accept_answer v x.offer.number)))
-        (record { source = x.source; dest = d; offer = x.offer }) (accept_answer v x.offer.number))) (sym (stands.slots d))
+    (record { source = x.source; dest = d; offer = x.offer }) (accept_answer v x.offer.number))) (sym (stands.slots d))
     (accept_same n head f t x d a latest refl stands comes
     (plain_stands n f t d (Accepting x.offer a) stands comes (kept_inside n f t d (Accepting x.offer a) stands (stands.dests x.offer.number)) tt refl))
 
@@ -130,7 +130,7 @@ install_arrives f d number comes history =
     let whole = is_whole f.home f.moments d number (comes, history) in
     let has = facts_of f.home f.moments history in
     let here : Facts (Passing whole.source d number) (begins_now f.moments) (move_now f.moments) (own_now f.home.first f.moments) (tables_now f.home f.moments) =
-        subst (λ p. Facts p (begins_now f.moments) (move_now f.moments) (own_now f.home.first f.moments) (tables_now f.home f.moments)) whole.handed has in
+    subst (λ p. Facts p (begins_now f.moments) (move_now f.moments) (own_now f.home.first f.moments) (tables_now f.home f.moments)) whole.handed has in
     ap (λ p. source_of (phase_after p (moment d (Installing number install.Now)))) whole.handed
     ∙ arrives whole.source here.offers.apart
   where

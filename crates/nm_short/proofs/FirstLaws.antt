@@ -44,8 +44,8 @@ unfolding slot_in
 slot_at_first n fs at s below =
     unwrap_or-slice_get (first_slots n fs at) s (no_part fs) ∙ ⊎_elim
     (λ (e : s ≡ at). subst (λ r. get_or (first_slots n fs at) r (no_part fs) ≡ at_server (file_at_first fs at) r) (sym e)
-        (get_or-set_same (replicate n (no_part fs)) at (first_slot fs) (no_part fs) (omega (arith, length-replicate n (no_part fs), below))
-        ∙ sym (served_at_first fs at)))
+    (get_or-set_same (replicate n (no_part fs)) at (first_slot fs) (no_part fs) (omega (arith, length-replicate n (no_part fs), below))
+    ∙ sym (served_at_first fs at)))
     (λ (ne : s ≢ at). get_or-set_other (replicate n (no_part fs)) at s (first_slot fs) (no_part fs) ne ∙ no_part_at n fs s ∙ sym (away_at_first fs at s ne))
     (cases_eq s at)
 

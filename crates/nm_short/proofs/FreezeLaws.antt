@@ -61,7 +61,7 @@ image_told s a f = refl
 
 image_sent : (n : ℕ) (f : FileNow) (t : FileTables) → Stands n f t
     → sends (source f) (phase_of (at_server f (source f))) (image_answer (at_server f (source f))) t.offer
-      ≡ option_map (sent_as (move_now (offers_at f (source f)).moments)) (latest_offer (offers_at f (source f)).moments)
+    ≡ option_map (sent_as (move_now (offers_at f (source f)).moments)) (latest_offer (offers_at f (source f)).moments)
 unfolding image_answer phase_of latest_offer slot_now
 image_sent n f t stands =
     let s : ℕ = source f in
@@ -85,11 +85,11 @@ offers_same n f t stands =
     let a : Option Offer = image_answer (at_server f s) in
     let comes : Comes f s (Imaging a) = record { answered = refl; delivered = tt } in
     let after : Stands n (offers_at f s) (with_sent (stepped t s (Imaging a)) t.at (sends s (phase_of (at_server f s)) a t.offer) t.handed) =
-        stands_by n f t s (Imaging a) t.at (sends s (phase_of (at_server f s)) a t.offer) t.handed stands comes
-        (kept_inside n f t s (Imaging a) stands (source_within n f t stands)) tt
-        (stands.at ∙ source_stays f s (Imaging a) refl) stands.within
-        (image_sent n f t stands)
-        (handed_stays n f t s (Imaging a) stands comes ∙ ap (option_map (handed_as (move_now (did f s (Imaging a)).moments))) (sym (image_told s a f))) in
+    stands_by n f t s (Imaging a) t.at (sends s (phase_of (at_server f s)) a t.offer) t.handed stands comes
+    (kept_inside n f t s (Imaging a) stands (source_within n f t stands)) tt
+    (stands.at ∙ source_stays f s (Imaging a) refl) stands.within
+    (image_sent n f t stands)
+    (handed_stays n f t s (Imaging a) stands comes ∙ ap (option_map (handed_as (move_now (did f s (Imaging a)).moments))) (sym (image_told s a f))) in
     subst (λ x. Stands n (offers_at f s) (record t { offer = sends x (phase_of (slot_in t x)) (image_answer (slot_in t x)) t.offer })) (sym stands.at)
     (subst (λ v. Stands n (offers_at f s) (record t { offer = sends s (phase_of v) (image_answer v) t.offer })) (sym (stands.slots s))
     (subst (λ slots. Stands n (offers_at f s) (record t { slots = slots; offer = sends s (phase_of (at_server f s)) a t.offer })) (image_slots t s a) after))

@@ -81,11 +81,11 @@ left_of_frozen q dest number s own (Committing its (Committed parties)) e =
 left_of_frozen q dest number s own (Abandoning (abandon.Back its)) e = tt
 left_of_frozen q dest number s own _ e = tt
 
-left_of_passing : (q dest number s : ℕ) (own : ℕ → Own) (step : SlotStep) (b : Bool) → (s == q) ≡ b
+left_of_passing : (q dest s : ℕ) (own : ℕ → Own) (step : SlotStep) (b : Bool) → (s == q) ≡ b
     → ((its : ℕ) (parties : List Party) → s ≡ q → step ≡ Committing its (Committed parties) → ⊥)
     → went_to (own q).left ≡ Some dest → went_to (cond b (own_after step 0 (own q)) (own q)).left ≡ Some dest
-left_of_passing q dest number s own step false e never before = before
-left_of_passing q dest number s own step true e never before = ⊎_elim
+left_of_passing q dest s own step false e never before = before
+left_of_passing q dest s own step true e never before = ⊎_elim
     (λ f. ap went_to (left_same step 0 (own q) f) ∙ before)
     (λ g. absurd (never g.0 g.1 (eqb-true s q e) g.2))
     (committed_or step)
@@ -94,18 +94,18 @@ committed_answer : (v : SlotView) (step : SlotStep) (its : ℕ) (parties : List 
     → Committed parties ≡ commit_answer v its
 committed_answer v step its parties e a = subst (λ x. IsAnswered v x) e a
 
-passing_stays : (q dest number s : ℕ) (own own' : ℕ → Own) (step : SlotStep) → went_to (own' q).left ≡ Some dest
-    → LeftStands (next (Passing q dest number) s step) own'
-passing_stays q dest number s own own' (Installing its install.Now) before = by_test (s == q) (s == dest) (its == number)
+passing_stays : (q dest number s : ℕ) (own : ℕ → Own) (step : SlotStep) → went_to (own q).left ≡ Some dest
+    → LeftStands (next (Passing q dest number) s step) own
+passing_stays q dest number s own (Installing its install.Now) before = by_test (s == q) (s == dest) (its == number)
   where
-    by_test : (b c d : Bool) → LeftStands (cond b (Passing q dest number) (cond (c && d) (At dest) (Passing q dest number))) own'
+    by_test : (b c d : Bool) → LeftStands (cond b (Passing q dest number) (cond (c && d) (At dest) (Passing q dest number))) own
     by_test true c d = before
     by_test false true true = tt
     by_test false true false = before
     by_test false false d = before
-passing_stays q dest number s own own' _ before = either (s == q)
+passing_stays q dest number s own _ before = either (s == q)
   where
-    either : (b : Bool) → LeftStands (cond b (Passing q dest number) (Passing q dest number)) own'
+    either : (b : Bool) → LeftStands (cond b (Passing q dest number) (Passing q dest number)) own
     either true = before
     either false = before
 
@@ -146,6 +146,6 @@ left_next fs (At q) own t s step a left = left_before (At q) s own step refl
 left_next fs (Closing q dest number) own t s step a left = left_before (Closing q dest number) s own step refl
 left_next fs (Frozen q dest number) own t s step a left = left_before (Frozen q dest number) s own step refl
 left_next fs (Passing q dest number) own t s step a left =
-    passing_stays q dest number s own (own_next step (Passing q dest number) s own) step
-    (left_of_passing q dest number s own step (s == q) refl
+    passing_stays q dest number s (own_next step (Passing q dest number) s own) step
+    (left_of_passing q dest s own step (s == q) refl
     (λ its parties at e. not_committed_away its (own s) (own s).held parties (committed_answer (slot_by fs (Passing q dest number) t own s) step its parties e a)) left)

@@ -13,9 +13,12 @@ use Rattle.nm_script.specs.declared.script.FsRow.{FsRow}
 use Rattle.nm_script.specs.declared.script.Head.{Head}
 use Rattle.nm_script.specs.declared.script.Line.{Line}
 use Rattle.nm_script.specs.declared.script.Script.{Script}
-use Rattle.nm_slot.specs.SlotNow.{SlotView}
-use Rattle.nm_short.specs.RunFacts.{run_after, tables_after, run_at, tables_at, run_of_head, home_of, IsAccounted}
-use Rattle.nm_short.specs.ShortRun.{FileNow, RunNow, at_server, run_line, reports, short_run}
+use Rattle.nm_slot.specs.declared.phase.Phase.TheVariants.{Serving}
+use Rattle.nm_slot.specs.Phases.Phase.{At}
+use Rattle.nm_slot.specs.SlotNow.{SlotView, phase_of}
+use Rattle.nm_slot.proofs.HistoryLaws.{one_serves, stay_legal}
+use Rattle.nm_short.specs.RunFacts.{run_after, tables_after, run_at, tables_at, run_of_head, home_of, IsServedOnce, IsAccounted}
+use Rattle.nm_short.specs.ShortRun.{FileNow, RunNow, at_server, phase_of_file, run_line, reports, short_run}
 use Rattle.nm_short.specs.Tables.{FileTables, TablesNow, Step, slot_in, no_part, told_line, text_from, tables_of_head}
 use Rattle.nm_short.proofs.FirstLaws.{run_at_first}
 use Rattle.nm_short.proofs.HomeLaws.{homes_after, home_at}
@@ -24,7 +27,7 @@ use Rattle.nm_short.proofs.Standing.{Stands}
 
 -- ---- the text
 
-pub text_same : (head : Head) (r : RunNow) (t : TablesNow) (lines : List Line) → All (IsRun head) lines → RunStands (length head.servers) r t
+text_same : (head : Head) (r : RunNow) (t : TablesNow) (lines : List Line) → All (IsRun head) lines → RunStands (length head.servers) r t
     → text_from head t lines ≡ text_of (reports head r lines)
 unfolding text_from reports
 text_same head r t [] fits run = refl
@@ -32,7 +35,7 @@ text_same head r t (line ∷ lines) fits run =
     let same : IsRan (length head.servers) (run_line head r line) (told_line head t line) = line_same head r t line (All-head (IsRun head) line lines fits) run in
     ap (λ rows. report_text rows ++ text_from head (told_line head t line).next lines) same.rows
     ∙ ap (λ rest. report_text (run_line head r line).rows ++ rest)
-      (text_same head (run_line head r line).run (told_line head t line).next lines (All-tail (IsRun head) line lines fits) same.next)
+    (text_same head (run_line head r line).run (told_line head t line).next lines (All-tail (IsRun head) line lines fits) same.next)
 
 -- the text of the run over what servers have is that of the short run
 pub text_of_script : (s : Script) → IsWellFormed s → text_from s.head (tables_of_head s.head) s.lines ≡ text_of (short_run s)
@@ -78,6 +81,16 @@ column_at : (n : ℕ) (f : FileNow) (t : FileTables) → Stands n f t → (serve
 unfolding slot_in
 column_at n f t stands server slot at = sym (ap (λ o. unwrap_or o (no_part t.fs)) at) ∙ stands.slots server
 
+serves_at : (n : ℕ) (f : FileNow) (t : FileTables) → Stands n f t → (server : ℕ) (slot : SlotView) → slice_get t.slots server ≡ Some slot
+    → phase_of slot ≡ Serving → phase_of_file f ≡ At server
+serves_at n f t stands server slot at serves =
+    (one_serves f.home f.moments server).0 (ap phase_of (sym (column_at n f t stands server slot at)) ∙ serves)
+
+served_once : (n : ℕ) (f : FileNow) (t : FileTables) → Stands n f t → IsServedOnce t
+served_once n f t stands a b x y at_a at_b serves_a serves_b =
+    let both : At a ≡ At b = sym (serves_at n f t stands a x at_a serves_a) ∙ serves_at n f t stands b y at_b serves_b in
+    cc
+
 account_of : (s : Script) (lines fs : ℕ) (row : FsRow) (f : Option FileNow) (t : Option FileTables)
     → slice_get (run_at s lines).files fs ≡ f → slice_get (tables_at s lines).files fs ≡ t → BothStand (length s.head.servers) f t
     → option_map (λ (x : FileNow). x.home) f ≡ Some (home_of fs row) → IsAccounted s lines fs row
@@ -92,6 +105,8 @@ account_of s lines fs row (Some f) (Some t) of_run of_tables both home = record 
   steps = both.history;
   servers = both.count;
   columns = column_at (length s.head.servers) f t both;
+  once = served_once (length s.head.servers) f t both;
+  legal = stay_legal f.home f.moments both.history;
 }
 
 home_after : (s : Script) (lines fs : ℕ) (row : FsRow) → slice_get s.head.file_systems fs ≡ Some row

@@ -63,11 +63,6 @@ sent_now p move t own s offer a there =
     (sym (eq-eqb offer.number offer.number refl))
     (record { offer = refl; source = offered_at p move t s offer (own s) (column p t s) refl a there })
 
-not_imaging : (step : SlotStep) (sent : Option Sent) (s : ℕ) (x : Sent) → sent_by s step sent ≡ Some x
-    → ((offer : Offer) → step ≡ Imaging (Some offer) → ⊥) → sent ≡ Some x
-not_imaging (Imaging (Some offer)) sent s x e other = absurd (other offer refl)
-not_imaging _ sent s x e other = e
-
 pub was_sent_next : (fs : ℕ) (p : Phase) (begins : ℕ) (move : ℕ → Move) (own : ℕ → Own) (t : Seen) (s : ℕ) (step : SlotStep) (sent : Option Sent)
     → IsAnswered (slot_by fs p t own s) step → Facts p begins move own t → BeganThere p move
     → ((x : Sent) → sent ≡ Some x → IsSent x (move x.offer.number))

@@ -68,7 +68,7 @@ unfolding stepped
 slot_there t s step kept = slot_get (stepped t s step) s ∙ ⊎_elim
     (λ (below : s < length t.slots). get_or-set_same t.slots s (slot_after (slot_in t s) step) (no_part t.fs) below)
     (λ (past : length t.slots ≤ s). get_or_past (set t.slots s (slot_after (slot_in t s) step)) s (no_part t.fs) (omega (arith, length-set t.slots s (slot_after (slot_in t s) step)))
-        ∙ sym (kept past) ∙ ap (λ v. slot_after v step) (sym (slot_outside t s past)))
+    ∙ sym (kept past) ∙ ap (λ v. slot_after v step) (sym (slot_outside t s past)))
     (cases_lt s (length t.slots))
 
 slot_elsewhere : (t : FileTables) (s r : ℕ) (step : SlotStep) → r ≢ s → slot_in (stepped t s step) r ≡ slot_in t r
@@ -79,7 +79,7 @@ slots_follow : (n : ℕ) (f : FileNow) (t : FileTables) (s : ℕ) (step : SlotSt
     → (r : ℕ) → slot_in (stepped t s step) r ≡ at_server (did f s step) r
 slots_follow n f t s step stands comes kept r = ⊎_elim
     (λ (e : r ≡ s). subst (λ q. slot_in (stepped t s step) q ≡ at_server (did f s step) q) (sym e)
-        (slot_there t s step kept ∙ ap (λ v. slot_after v step) (stands.slots s) ∙ own_slot f.home f.moments (moment s step) (comes, stands.history)))
+    (slot_there t s step kept ∙ ap (λ v. slot_after v step) (stands.slots s) ∙ own_slot f.home f.moments (moment s step) (comes, stands.history)))
     (λ (ne : r ≢ s). slot_elsewhere t s r step ne ∙ stands.slots r ∙ sym (other_slots f.home f.moments (moment s step) (comes, stands.history) r ne))
     (cases_eq r s)
 
