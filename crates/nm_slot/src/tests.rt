@@ -466,6 +466,7 @@ fn a_commit_lists_who_holds_something(rt: HostRuntime) -> Result<(), Fail> {
     }
 }
 
+// How many opens are held in the state that is here, or in the one on offer.
 fn rows(slot: &Slot) -> Result<Option<usize>, Fail> {
     match slot.table()? {
         Some(table) => Ok(Some(table.items().len())),
@@ -473,30 +474,42 @@ fn rows(slot: &Slot) -> Result<Option<usize>, Fail> {
     }
 }
 
+// A slot that holds the offer of a state with two opens, which came twice.
+fn offered(rt: &impl Abort, alloc: Global) -> Result<Slot, Fail> {
+    let source = opened_and_frozen(rt, alloc)?;
+    let mut dest = slot_in(rt, alloc, Made::Never)?;
+    assert_eq!(rt; offer(rt, &source, &mut dest)?, Accept::Held);
+    assert_eq!(rt; offer(rt, &source, &mut dest)?, Accept::Held);
+    Ok(dest)
+}
+
+#[test]
+fn an_offer_is_installed_once(rt: HostRuntime) -> Result<(), Fail> {
+    let one = MoveNum::new(1);
+    let mut slot = offered(&rt, rt.alloc())?;
+    assert_eq!(rt; rows(&slot)?, Some(2));
+    assert_eq!(rt; slot.install(one), Install::Now);
+    assert_eq!(rt; slot.install(one), Install::Already);
+    assert_eq!(rt; rows(&slot)?, Some(2));
+    Ok(())
+}
+
 #[test]
 fn the_state_goes_on_at_the_destination(rt: HostRuntime) -> Result<(), Fail> {
     let alloc = rt.alloc();
-    let asked = open(alloc, client(b"A")?)?;
-    let source = opened_and_frozen(&rt, alloc)?;
-    let mut dest = slot_in(&rt, alloc, Made::Never)?;
-    assert_eq!(rt; rows(&dest)?, None);
-    assert_eq!(rt; offer(&rt, &source, &mut dest)?, Accept::Held);
-    assert_eq!(rt; offer(&rt, &source, &mut dest)?, Accept::Held);
-    assert_eq!(rt; rows(&dest)?, Some(2));
-    assert_eq!(rt; dest.install(MoveNum::new(1)), Install::Now);
-    assert_eq!(rt; dest.install(MoveNum::new(1)), Install::Already);
-    assert_eq!(rt; (dest.epoch().number(), dest.count()), (1, 2));
-    assert_eq!(rt; rows(&dest)?, Some(2));
-    assert_eq!(rt;
-        call_once(&mut dest, &asked)?,
-        Called::Done(3, OpStatus::Nfs4Ok)
-    );
-    // A pass of the source's epoch is none here.
-    let pass = FsPass {
+    let old_pass = FsPass {
         fs: x()?,
         epoch: Epoch::new(0),
     };
-    assert_eq!(rt; call(&mut dest, &pass, &asked)?, Called::Strayed(0, 1));
+    let asked = open(alloc, client(b"A")?)?;
+    let mut slot = offered(&rt, alloc)?;
+    assert_eq!(rt; slot.install(MoveNum::new(1)), Install::Now);
+    assert_eq!(rt; (slot.epoch().number(), slot.count()), (1, 2));
+    assert_eq!(rt; call(&mut slot, &old_pass, &asked)?, Called::Strayed(0, 1));
+    assert_eq!(rt;
+        call_once(&mut slot, &asked)?,
+        Called::Done(3, OpStatus::Nfs4Ok)
+    );
     Ok(())
 }
 
