@@ -58,10 +58,12 @@ fn accept(rt: &impl Abort, slot: &mut Slot, image: &Image) -> Result<Accept, Mem
 }
 
 // Hands what is on offer to another slot.
-fn offer(rt: &impl Abort, from: &Slot, to: &mut Slot) -> Result<Accept, Fail> {
+fn offer(rt: &impl Abort, from: &Slot, to: &mut Slot) -> Result<Accept, Memory> {
     assert!(rt; from.fs().number() == 0);
-    let image = from.image()?.ok_or("it is frozen")?;
-    Ok(accept(rt, to, &image)?)
+    match from.image()? {
+        Some(image) => accept(rt, to, &image),
+        None => panic!(rt; "it is frozen"),
+    }
 }
 
 #[derive(Clone, Copy)]
@@ -79,11 +81,9 @@ fn slot_in(rt: &impl Abort, alloc: Global, made: Made) -> Result<Slot, Fail> {
     match made {
         Made::Never => Ok(Slot::new(alloc, x()?, None)?),
         Made::Incoming => {
+            let offer = image(alloc, 1, 1, 0)?;
             let mut slot = Slot::new(alloc, x()?, None)?;
-            assert_eq!(rt;
-                accept(rt, &mut slot, &image(alloc, 1, 1, 0)?)?,
-                Accept::Held
-            );
+            assert_eq!(rt; accept(rt, &mut slot, &offer), Ok(Accept::Held));
             Ok(slot)
         }
         Made::Serving | Made::Closing | Made::Frozen | Made::Gone => served(rt, alloc, made),
@@ -92,11 +92,12 @@ fn slot_in(rt: &impl Abort, alloc: Global, made: Made) -> Result<Slot, Fail> {
 
 fn served(rt: &impl Abort, alloc: Global, made: Made) -> Result<Slot, Fail> {
     let one = MoveNum::new(1);
+    let (here, dest) = (server(0)?, server(1)?);
     let mut slot = Slot::new(alloc, x()?, Some(no_files(alloc)?))?;
     if matches!(made, Made::Serving) {
         return Ok(slot);
     }
-    assert_eq!(rt; slot.begin(server(0)?, server(1)?), Begin::Begun(one));
+    assert_eq!(rt; slot.begin(here, dest), Begin::Begun(one));
     if matches!(made, Made::Closing) {
         return Ok(slot);
     }
@@ -131,7 +132,7 @@ struct Row {
     freeze: (Freeze, Phase),
     commit: (Handed, Phase),
     abandon: (Abandon, Phase),
-    accept: (Accept, Phase),
+    accept: (Result<Accept, Memory>, Phase),
     install: (Install, Phase),
     withdraw: (bool, Phase),
 }
@@ -157,10 +158,14 @@ fn abandoned(rt: &impl Abort, alloc: Global, made: Made) -> Result<(Abandon, Pha
     Ok((slot.abandon(), slot.phase()))
 }
 
-fn accepted(rt: &impl Abort, alloc: Global, made: Made) -> Result<(Accept, Phase), Fail> {
+fn accepted(
+    rt: &impl Abort,
+    alloc: Global,
+    made: Made,
+) -> Result<(Result<Accept, Memory>, Phase), Fail> {
     let offer = image(alloc, 2, 1, 0)?;
     let mut slot = slot_in(rt, alloc, made)?;
-    Ok((accept(rt, &mut slot, &offer)?, slot.phase()))
+    Ok((accept(rt, &mut slot, &offer), slot.phase()))
 }
 
 fn installed(rt: &impl Abort, alloc: Global, made: Made) -> Result<(Install, Phase), Fail> {
@@ -204,7 +209,7 @@ fn each_call_where_the_state_is_away(rt: HostRuntime) -> Result<(), Fail> {
         freeze: (Freeze::Idle, Phase::Never),
         commit: (Handed::Dead(0), Phase::Never),
         abandon: (Abandon::Idle, Phase::Never),
-        accept: (Accept::Held, incoming(2)),
+        accept: (Ok(Accept::Held), incoming(2)),
         install: (Install::Absent, Phase::Never),
         withdraw: (false, Phase::Never),
     };
@@ -214,7 +219,7 @@ fn each_call_where_the_state_is_away(rt: HostRuntime) -> Result<(), Fail> {
         freeze: (Freeze::Idle, gone),
         commit: (Handed::Again, gone),
         abandon: (Abandon::Late, gone),
-        accept: (Accept::Held, incoming(2)),
+        accept: (Ok(Accept::Held), incoming(2)),
         install: (Install::Absent, gone),
         withdraw: (false, gone),
     };
@@ -224,7 +229,7 @@ fn each_call_where_the_state_is_away(rt: HostRuntime) -> Result<(), Fail> {
         freeze: (Freeze::Idle, incoming(1)),
         commit: (Handed::Dead(1), incoming(1)),
         abandon: (Abandon::Idle, incoming(1)),
-        accept: (Accept::Held, incoming(2)),
+        accept: (Ok(Accept::Held), incoming(2)),
         install: (Install::Now, Phase::Serving),
         withdraw: (true, Phase::Never),
     };
@@ -246,7 +251,7 @@ fn each_call_where_the_state_is_here(rt: HostRuntime) -> Result<(), Fail> {
         freeze: (Freeze::Idle, Phase::Serving),
         commit: (Handed::Dead(0), Phase::Serving),
         abandon: (Abandon::Idle, Phase::Serving),
-        accept: (Accept::Live, Phase::Serving),
+        accept: (Ok(Accept::Live), Phase::Serving),
         install: (Install::Absent, Phase::Serving),
         withdraw: (false, Phase::Serving),
     };
@@ -256,7 +261,7 @@ fn each_call_where_the_state_is_here(rt: HostRuntime) -> Result<(), Fail> {
         freeze: (Freeze::Frozen(number), frozen),
         commit: (Handed::Dead(1), closing),
         abandon: (Abandon::Back(number), Phase::Serving),
-        accept: (Accept::Live, closing),
+        accept: (Ok(Accept::Live), closing),
         install: (Install::Absent, closing),
         withdraw: (false, closing),
     };
@@ -266,7 +271,7 @@ fn each_call_where_the_state_is_here(rt: HostRuntime) -> Result<(), Fail> {
         freeze: (Freeze::Frozen(number), frozen),
         commit: (Handed::Committed(0), gone),
         abandon: (Abandon::Back(number), Phase::Serving),
-        accept: (Accept::Live, frozen),
+        accept: (Ok(Accept::Live), frozen),
         install: (Install::Absent, frozen),
         withdraw: (false, frozen),
     };
@@ -314,11 +319,12 @@ fn the_door_in_each_phase(rt: HostRuntime) -> Result<(), Fail> {
     Ok(())
 }
 
-fn entered(answer: Enter) -> Result<FsPass, Fail> {
-    match answer {
-        Enter::Entered(pass) => Ok(pass),
+// The pass that is given where one may enter.
+fn enter(rt: &impl Abort, slot: &mut Slot) -> FsPass {
+    match slot.enter() {
+        Enter::Entered(pass) => pass,
         Enter::Full { .. } | Enter::Delay | Enter::Moved { .. } | Enter::Unknown => {
-            Err("one may enter".into())
+            panic!(rt; "one may enter")
         }
     }
 }
@@ -328,8 +334,8 @@ fn a_move_waits_for_the_passes_that_are_out(rt: HostRuntime) -> Result<(), Fail>
     let alloc = rt.alloc();
     let (here, dest) = (server(0)?, server(2)?);
     let mut slot = slot_in(&rt, alloc, Made::Serving)?;
-    let first = entered(slot.enter())?;
-    let second = entered(slot.enter())?;
+    let first = enter(&rt, &mut slot);
+    let second = enter(&rt, &mut slot);
     assert_eq!(rt; slot.begin(here, here), Begin::Same);
     assert_eq!(rt; slot.begin(here, dest), Begin::Begun(MoveNum::new(1)));
     assert_eq!(rt; slot.freeze(), Freeze::Waiting { passes: 2 });
@@ -389,7 +395,7 @@ enum Called {
     Ended,
 }
 
-fn call(slot: &mut Slot, pass: &FsPass, call: &Call) -> Result<Called, Fail> {
+fn call(slot: &mut Slot, pass: &FsPass, call: &Call) -> Result<Called, Memory> {
     Ok(match slot.apply(pass, None, call, Verdict::Pass)? {
         Answer::Done { place, reply } => Called::Done(place, reply.status),
         Answer::Strayed {
@@ -401,51 +407,39 @@ fn call(slot: &mut Slot, pass: &FsPass, call: &Call) -> Result<Called, Fail> {
     })
 }
 
-// Makes a call with a pass that is asked for, and gives it back.
-fn call_once(slot: &mut Slot, asked: &Call) -> Result<Called, Fail> {
-    let pass = entered(slot.enter())?;
-    let called = call(slot, &pass, asked)?;
-    slot.leave(pass);
-    Ok(called)
+fn done(place: u64) -> Result<Called, Memory> {
+    Ok(Called::Done(place, OpStatus::Nfs4Ok))
+}
+
+fn pass(epoch: u64) -> Result<FsPass, Fail> {
+    Ok(FsPass {
+        fs: x()?,
+        epoch: Epoch::new(epoch),
+    })
 }
 
 #[test]
 fn calls_are_made_until_the_freeze(rt: HostRuntime) -> Result<(), Fail> {
     let alloc = rt.alloc();
-    let (here, dest) = (server(0)?, server(1)?);
+    let (here, dest, pass) = (server(0)?, server(1)?, pass(0)?);
     let asked = open(alloc, client(b"A")?)?;
-    let pass = FsPass {
-        fs: x()?,
-        epoch: Epoch::new(0),
-    };
     let mut slot = slot_in(&rt, alloc, Made::Serving)?;
-    assert_eq!(rt;
-        call(&mut slot, &pass, &asked)?,
-        Called::Done(1, OpStatus::Nfs4Ok)
-    );
+    assert_eq!(rt; call(&mut slot, &pass, &asked), done(1));
     assert_eq!(rt; slot.begin(here, dest), Begin::Begun(MoveNum::new(1)));
-    assert_eq!(rt;
-        call(&mut slot, &pass, &asked)?,
-        Called::Done(2, OpStatus::Nfs4Ok)
-    );
+    assert_eq!(rt; call(&mut slot, &pass, &asked), done(2));
     assert_eq!(rt; slot.freeze(), Freeze::Frozen(MoveNum::new(1)));
-    assert_eq!(rt; call(&mut slot, &pass, &asked)?, Called::Strayed(0, 0));
+    assert_eq!(rt; call(&mut slot, &pass, &asked), Ok(Called::Strayed(0, 0)));
     Ok(())
 }
 
 // A slot that is frozen for its move 1, in which B and then A have a file open.
 fn opened_and_frozen(rt: &impl Abort, alloc: Global) -> Result<Slot, Fail> {
-    let (here, dest) = (server(0)?, server(1)?);
-    let (first, second) = (open(alloc, client(b"B")?)?, open(alloc, client(b"A")?)?);
+    let (here, dest, pass) = (server(0)?, server(1)?, pass(0)?);
+    let first = open(alloc, client(b"B")?)?;
+    let second = open(alloc, client(b"A")?)?;
     let mut slot = slot_in(rt, alloc, Made::Serving)?;
-    assert_eq!(rt;
-        call_once(&mut slot, &first)?,
-        Called::Done(1, OpStatus::Nfs4Ok)
-    );
-    assert_eq!(rt;
-        call_once(&mut slot, &second)?,
-        Called::Done(2, OpStatus::Nfs4Ok)
-    );
+    assert_eq!(rt; call(&mut slot, &pass, &first), done(1));
+    assert_eq!(rt; call(&mut slot, &pass, &second), done(2));
     assert_eq!(rt; slot.begin(here, dest), Begin::Begun(MoveNum::new(1)));
     assert_eq!(rt; slot.freeze(), Freeze::Frozen(MoveNum::new(1)));
     Ok(slot)
@@ -462,62 +456,69 @@ fn a_commit_lists_who_holds_something(rt: HostRuntime) -> Result<(), Fail> {
             assert!(rt; holders[1].is_same(&b));
             Ok(())
         }
-        Commit::Again | Commit::Dead { .. } => Err("it is handed over".into()),
+        Commit::Again | Commit::Dead { .. } => panic!(rt; "it is handed over"),
     }
 }
 
-fn rows(slot: &Slot) -> Result<Option<usize>, Fail> {
+// How many opens are held in the state that is here, or in the one on offer.
+fn rows(slot: &Slot) -> Result<Option<usize>, Memory> {
     match slot.table()? {
         Some(table) => Ok(Some(table.items().len())),
         None => Ok(None),
     }
 }
 
+// A slot that holds the offer of a state with two opens, which came twice.
+fn offered(rt: &impl Abort, alloc: Global) -> Result<Slot, Fail> {
+    let source = opened_and_frozen(rt, alloc)?;
+    let mut dest = slot_in(rt, alloc, Made::Never)?;
+    assert_eq!(rt; rows(&dest), Ok(None));
+    assert_eq!(rt; offer(rt, &source, &mut dest), Ok(Accept::Held));
+    assert_eq!(rt; offer(rt, &source, &mut dest), Ok(Accept::Held));
+    assert_eq!(rt; rows(&dest), Ok(Some(2)));
+    Ok(dest)
+}
+
 #[test]
-fn the_state_goes_on_at_the_destination(rt: HostRuntime) -> Result<(), Fail> {
-    let alloc = rt.alloc();
-    let asked = open(alloc, client(b"A")?)?;
-    let source = opened_and_frozen(&rt, alloc)?;
-    let mut dest = slot_in(&rt, alloc, Made::Never)?;
-    assert_eq!(rt; rows(&dest)?, None);
-    assert_eq!(rt; offer(&rt, &source, &mut dest)?, Accept::Held);
-    assert_eq!(rt; offer(&rt, &source, &mut dest)?, Accept::Held);
-    assert_eq!(rt; rows(&dest)?, Some(2));
-    assert_eq!(rt; dest.install(MoveNum::new(1)), Install::Now);
-    assert_eq!(rt; dest.install(MoveNum::new(1)), Install::Already);
-    assert_eq!(rt; (dest.epoch().number(), dest.count()), (1, 2));
-    assert_eq!(rt; rows(&dest)?, Some(2));
+fn an_offer_is_installed_once(rt: HostRuntime) -> Result<(), Fail> {
+    let one = MoveNum::new(1);
+    let late = image(rt.alloc(), 1, 1, 0)?;
+    let mut slot = offered(&rt, rt.alloc())?;
+    assert_eq!(rt; slot.install(one), Install::Now);
+    assert_eq!(rt; slot.install(one), Install::Already);
     assert_eq!(rt;
-        call_once(&mut dest, &asked)?,
-        Called::Done(3, OpStatus::Nfs4Ok)
+        accept(&rt, &mut slot, &late),
+        Ok(Accept::Old { known: one })
     );
-    // A pass of the source's epoch is none here.
-    let pass = FsPass {
-        fs: x()?,
-        epoch: Epoch::new(0),
-    };
-    assert_eq!(rt; call(&mut dest, &pass, &asked)?, Called::Strayed(0, 1));
+    assert_eq!(rt; rows(&slot), Ok(Some(2)));
     Ok(())
 }
 
-fn accept_of(rt: &impl Abort, alloc: Global, slot: &mut Slot, number: u64) -> Result<Accept, Fail>
-    requires { number ≤ 2 ^ 63 }
-{
-    let offer = image(alloc, number, 1, 0)?;
-    Ok(accept(rt, slot, &offer)?)
+#[test]
+fn the_state_goes_on_at_the_destination(rt: HostRuntime) -> Result<(), Fail> {
+    let alloc = rt.alloc();
+    let (old, new) = (pass(0)?, pass(1)?);
+    let asked = open(alloc, client(b"A")?)?;
+    let mut slot = offered(&rt, alloc)?;
+    assert_eq!(rt; slot.install(MoveNum::new(1)), Install::Now);
+    assert_eq!(rt; (slot.epoch().number(), slot.count()), (1, 2));
+    assert_eq!(rt; call(&mut slot, &old, &asked), Ok(Called::Strayed(0, 1)));
+    assert_eq!(rt; call(&mut slot, &new, &asked), done(3));
+    Ok(())
 }
 
 #[test]
 fn a_withdrawn_number_is_known(rt: HostRuntime) -> Result<(), Fail> {
     let alloc = rt.alloc();
-    let mut slot = slot_in(&rt, alloc, Made::Never)?;
-    assert!(rt; !slot.withdraw(MoveNum::new(5)));
-    assert_eq!(rt; slot.known().number(), 5);
     let known = MoveNum::new(5);
-    assert_eq!(rt; accept_of(&rt, alloc, &mut slot, 4)?, Accept::Old { known });
-    assert_eq!(rt; accept_of(&rt, alloc, &mut slot, 6)?, Accept::Held);
+    let (lower, higher) = (image(alloc, 4, 1, 0)?, image(alloc, 6, 1, 0)?);
+    let mut slot = slot_in(&rt, alloc, Made::Never)?;
+    assert!(rt; !slot.withdraw(known));
+    assert_eq!(rt; slot.known().number(), 5);
+    assert_eq!(rt; accept(&rt, &mut slot, &lower), Ok(Accept::Old { known }));
+    assert_eq!(rt; accept(&rt, &mut slot, &higher), Ok(Accept::Held));
     // A late word of a lower move drops nothing, and lowers nothing.
-    assert!(rt; !slot.withdraw(MoveNum::new(5)));
+    assert!(rt; !slot.withdraw(known));
     assert_eq!(rt; (slot.phase(), slot.known().number()), (incoming(6), 6));
     Ok(())
 }
@@ -534,9 +535,9 @@ fn moved_here(
     requires epoch { epoch ≤ 2 ^ 63 }
     requires count { count ≤ 2 ^ 63 }
 {
+    let offer = image(alloc, number, epoch, count)?;
     let mut slot = Slot::new(alloc, x()?, None)?;
-    let accepted = accept(rt, &mut slot, &image(alloc, number, epoch, count)?)?;
-    assert_eq!(rt; accepted, Accept::Held);
+    assert_eq!(rt; accept(rt, &mut slot, &offer), Ok(Accept::Held));
     assert_eq!(rt; slot.install(MoveNum::new(number)), Install::Now);
     Ok(slot)
 }
@@ -580,12 +581,10 @@ fn a_move_needs_next_numbers(rt: HostRuntime) -> Result<(), Fail> {
 fn the_last_entry_leaves_room_for_ends(rt: HostRuntime) -> Result<(), Fail> {
     let alloc = rt.alloc();
     let few = END - (1 << 17);
+    let pass = pass(1)?;
     let asked = open(alloc, client(b"A")?)?;
     let mut slot = moved_here(&rt, alloc, 1, 1, few - 1)?;
-    assert_eq!(rt;
-        call_once(&mut slot, &asked)?,
-        Called::Done(few, OpStatus::Nfs4Ok)
-    );
-    assert_eq!(rt; call_once(&mut slot, &asked)?, Called::Last(few));
+    assert_eq!(rt; call(&mut slot, &pass, &asked), done(few));
+    assert_eq!(rt; call(&mut slot, &pass, &asked), Ok(Called::Last(few)));
     Ok(())
 }
