@@ -1,4 +1,5 @@
 pub mod Apart
+pub mod HolderLaws
 pub mod Legal
 pub mod Looks
 pub mod OpenRows

@@ -8,16 +8,16 @@ use Rattle.nm_rules.specs.Parties.{Party, same_party, party_cmp}
 use Rattle.nm_rules.specs.Seen.{Seen}
 use Rattle.nm_rules.specs.declared.rows.OpenRow.{OpenRow}
 
--- by where a party stands to the first one: before it, there already, or further on
+-- by where the first one stands to the party: before it, at it, or after it
 abbrev pub put_by : Ordering → Party → Party → List Party → List Party → List Party
-put_by Less party x xs later = party ∷ x ∷ xs
-put_by Equal party x xs later = x ∷ xs
-put_by Greater party x xs later = x ∷ later
+put_by Less party x xs put = x ∷ put
+put_by Equal party x xs put = x ∷ xs
+put_by Greater party x xs put = party ∷ x ∷ xs
 
 -- a party in its place in a rising list, once
 abbrev pub put_party : Party → List Party → List Party
 put_party party [] = party ∷ []
-put_party party (x ∷ xs) = put_by (party_cmp party x) party x xs (put_party party xs)
+put_party party (x ∷ xs) = put_by (party_cmp x party) party x xs (put_party party xs)
 
 -- the instances of these opens, each once, in the order of string, verifier, flavor and user
 unfoldable pub holders_of : List OpenRow → List Party

@@ -1,12 +1,16 @@
 //! Laws of legal lists: each is the contract of a function that does nothing. They are over the definitions alone, and
 //! the contracts of the crates above bind the code to the same definitions.
-ghost use Rattle.std.specs.Prelude.{◌≡◌, ◌≢◌, ℕ, Bool};
+ghost use Rattle.std.specs.Prelude.{◌≡◌, ◌≢◌, ◌≤◌, ◌+◌, ℕ, Bool, true, length};
 ghost use Rattle.nm_rules.specs.Past.{Past, now};
-ghost use Rattle.nm_rules.specs.Seen.{seen, look};
+ghost use Rattle.nm_rules.specs.Seen.{Seen, seen, look, after};
 ghost use Rattle.nm_rules.specs.Answer.{IsLegal};
 ghost use Rattle.nm_rules.specs.Sound.{IsSound};
+ghost use Rattle.nm_rules.specs.Parties.{Party};
+ghost use Rattle.nm_rules.specs.Holders.{holders, has_row, is_among, parties_rise};
 ghost use Rattle.nm_rules.specs.Readings.{share_of, share_in, AreCompatible};
 ghost use Rattle.nm_rules.specs.declared.calls.Owner.{Owner as AnyOwner};
+ghost use Rattle.nm_rules.specs.declared.calls.Event.{Event as AnyEvent};
+ghost use Rattle.nm_rules.specs.declared.calls.Reply.{Reply as AnyReply};
 
 /// No two owners hold conflicting shares of a file (RFC 7530, 9.9): what one does is never what the other denies.
 pub fn shares_never_conflict()
@@ -29,4 +33,17 @@ pub fn tables_show_what_stands()
 /// The tables of a legal list are sound: counters rise up to the last, and all opens may stand together.
 pub fn legal_tables_are_sound()
     ensures { (fs : ℕ) (grants : Bool) (es : Past) → IsLegal fs grants es → IsSound (seen fs grants es) }
+{}
+
+/// The list of holders rises, so that none stands in it twice, and an instance is in it exactly where it has a row.
+pub fn holders_have_rows()
+    ensures rise { (s : Seen) → parties_rise (holders s) ≡ true }
+    ensures exact { (s : Seen) (party : Party) → is_among party (holders s) ≡ has_row party s }
+{}
+
+/// There are no more holders than rows, and an event adds at most one row. So room for one more than there are rows is
+/// room for the holders after the next event.
+pub fn rows_grow_by_one()
+    ensures fit { (s : Seen) → length (holders s) ≤ length s.opens }
+    ensures grow { (s : Seen) (event : AnyEvent) (reply : AnyReply) → length (after s event reply).opens ≤ length s.opens + 1 }
 {}

@@ -4,6 +4,7 @@
 mod action;
 mod calls;
 mod cause;
+mod copies;
 mod instance;
 mod items;
 mod laws;
@@ -25,7 +26,8 @@ pub use cause::Cause;
 pub use instance::{Instance, NameFault, Principal};
 pub use items::{Bytes, Items};
 pub use laws::{
-    legal_tables_are_sound, shares_never_conflict, tables_keep_shares, tables_show_what_stands,
+    holders_have_rows, legal_tables_are_sound, rows_grow_by_one, shares_never_conflict,
+    tables_keep_shares, tables_show_what_stands,
 };
 pub use memory::{Memory, Refusal};
 pub use numbers::{Epoch, Era, FsNum, MoveNum, ServerNum};

@@ -6,12 +6,12 @@ use Rattle.nm_rules.specs.Parties.{Party}
 use Rattle.nm_rules.specs.Files.{TreeNow, file_at, tree_after}
 use Rattle.nm_rules.specs.Shares.{open_at, open_of, put_open, opens_after}
 use Rattle.nm_rules.specs.Past.{words, no_words, is_done, claimed_name, opener}
-use Rattle.nm_rules.specs.Seen.{Seen, look, after, after_words}
+use Rattle.nm_rules.specs.Seen.{Seen, look, after, after_words, empty}
 use Rattle.nm_rules.specs.Opens.{GoesOpen, open_checks, close_checks, close_checks_at, open_value, close_value, closed_stateid, open_named, row_to_open, file_to_open}
 use Rattle.nm_rules.specs.Answer.{answer_to, reply_by, reply_with, refused_value, checks}
 use Rattle.nm_rules.specs.Checks.{Stop, first}
 use Rattle.nm_rules.specs.Checks.Stop.{Refuse}
-use Rattle.nm_rules.specs.Sound.{rises}
+use Rattle.nm_rules.specs.Sound.{IsSound, rises}
 use Rattle.nm_rules.specs.declared.calls.Call.{Call}
 use Rattle.nm_rules.specs.declared.calls.Owner.{Owner}
 use Rattle.nm_rules.specs.declared.calls.Deed.TheVariants.{Open, Close}
@@ -21,11 +21,13 @@ use Rattle.nm_rules.specs.declared.calls.StateId.{StateId}
 use Rattle.nm_rules.specs.declared.calls.Opened.{Opened}
 use Rattle.nm_rules.specs.declared.calls.Verdict.{Verdict}
 use Rattle.nm_rules.specs.declared.calls.Event.TheVariants.{Asked, Ended}
+use Rattle.nm_rules.specs.declared.calls.Event.{Event}
+use Rattle.nm_rules.specs.declared.calls.Reply.{Reply}
 use Rattle.nm_rules.specs.declared.calls.ReplyValue.TheVariants.{Nothing, Open as OpenReply, Close as CloseReply}
 use Rattle.nm_rules.specs.declared.status.OpStatus.{OpStatus}
 use Rattle.nm_rules.specs.declared.status.OpStatus.TheVariants.{Nfs4Ok}
 use Rattle.nm_rules.specs.declared.rows.OpenRow.{OpenRow}
-use Rattle.nm_rules.proofs.Legal.{same_row, drew_new, words-refused}
+use Rattle.nm_rules.proofs.Legal.{same_row, drew_new, words-refused, sound-after}
 use Rattle.nm_rules.proofs.ShareLaws.{named_is_live}
 use Rattle.nm_shares.specs.Rows.{row_to_take, last_after}
 use Rattle.nm_state.specs.Opening.{made_at, with_file, after_taking, after_open, after_drop, after_end, Applied}
@@ -156,3 +158,12 @@ close_drops s caller file args verdict id goes value = by_row (open_named s args
     by_row (Some row) named told =
         let it : row.counter ≡ id.counter = cc in
         rw (← it, named_is_live s args.stateid row named) refl
+
+-- nothing is held at first, so the tables are sound
+pub empty_sound : (fs : ℕ) (grants : Bool) → IsSound (empty fs grants)
+empty_sound fs grants = record { rising = refl; apart = refl }
+
+-- and an event that is answered keeps them so
+pub applied_sound : (before : Seen) (event : Event) (reply : Reply) (new : Seen) → IsSound before → Applied before event reply new → IsSound new
+applied_sound before event reply new sound applied =
+    rw (applied.tables, applied.answer) (sound-after before event sound)

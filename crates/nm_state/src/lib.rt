@@ -2,6 +2,7 @@
 //! off these (RFC 7530, 16.2 and 16.16).
 #![tactic(auto)]
 
+mod holders;
 mod shown;
 mod state;
 mod tables;

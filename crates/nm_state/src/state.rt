@@ -1,14 +1,18 @@
 //! The state of one file system.
-ghost use Rattle.std.specs.Prelude.{◌≡◌, false, ℕ, Bool, IfOk};
+ghost use Rattle.std.specs.Prelude.{◌≡◌, ◌≤◌, [], false, ℕ, Bool, IfOk, length};
+ghost use Rattle.std.specs.Vec.{vec_capacity};
 ghost use Rattle.nm_rules.specs.Past.{Past};
 ghost use Rattle.nm_rules.specs.Seen.{seen};
+ghost use Rattle.nm_rules.specs.Sound.{IsSound};
 ghost use Rattle.nm_rules.specs.Answer.{answer, add};
 ghost use Rattle.nm_rules.specs.Held.{held_table};
+ghost use Rattle.nm_rules.specs.Holders.{holders};
 ghost use Rattle.nm_state.specs.State.{fresh, Applies, Answers};
 
+use crate::holders::gather;
 use crate::shown::show_opens;
 use crate::tables::Tables;
-use nm_rules::{Event, FsNum, HeldTable, Memory, Reply};
+use nm_rules::{Event, FsNum, HeldTable, Instance, Memory, Reply};
 use std::alloc::Global;
 use std::marker::Model;
 
@@ -26,11 +30,17 @@ impl Model for FsState {
 
     ghost Value = { StateNow };
 
+    ghost use Rattle.std.specs.Prelude.{◌≡◌, false};
+    ghost use Rattle.nm_rules.specs.Sound.{IsSound};
+
     ghost view = { λ s. record { seen = s.tables; spent = s.spent } };
+
+    ghost invariant = { λ s. s.spent ≡ false → IsSound s.tables };
 }
 
 impl FsState {
     /// The state of a file system before the first entry: no file but the root, and nothing open.
+    #[tactic(auto, using(crate::proofs::OpeningLemmas::empty_sound))]
     pub fn new(alloc: Global, fs: FsNum, grants: bool) -> Result<FsState, Memory>
         ensures { IfOk result (λ s. s ≡ fresh fs grants) }
     {
@@ -39,6 +49,14 @@ impl FsState {
             tables: Tables::new(alloc, fs, grants),
             spent: false,
         })
+    }
+
+    /// The tables of a state that isn't spent are sound: counters rise up to the last one, and all opens may stand
+    /// together.
+    pub fn tables_are_sound(&self)
+        ensures { self.now.spent ≡ false → IsSound self.now.seen }
+    {
+        let _ = &self.spent;
     }
 
     /// The reply that `apply` would give.
@@ -83,6 +101,42 @@ impl FsState {
             return Err(Memory);
         }
         show_opens(self.alloc, self.tables.files(), self.tables.opens())
+    }
+
+    /// Who holds something, in the order of string, verifier, flavor and user, each once.
+    pub fn holders(&self) -> Result<Vec<Instance>, Memory>
+        ensures value { IfOk result (λ list. list.items ≡ holders self.now.seen) }
+        ensures unspent { IfOk result (λ list. self.now.spent ≡ false) }
+    {
+        if self.spent {
+            return Err(Memory);
+        }
+        let mut list = Vec::new(self.alloc);
+        gather(self.tables.opens(), &mut list)?;
+        Ok(list)
+    }
+
+    /// How many rows there are. There are no more holders than that.
+    #[tactic(auto, using(nm_rules::proofs::HolderLaws::holders_fit))]
+    pub fn rows(&self) -> usize
+        ensures value { result ≡ length self.now.seen.opens }
+        ensures holders { length (holders self.now.seen) ≤ result }
+    {
+        self.tables.opens().len()
+    }
+
+    /// The holders, in an empty list that has room for them: it takes no memory, and is there for a spent state too.
+    pub fn list_holders(&self, room: Vec<Instance>) -> Vec<Instance>
+        requires empty { room.items ≡ [] }
+        requires fits { length (holders self.now.seen) ≤ vec_capacity room }
+        ensures value { result.items ≡ holders self.now.seen }
+    {
+        let mut list = room;
+        match gather(self.tables.opens(), &mut list) {
+            Ok(()) => list,
+            // There is room for them.
+            Err(Memory) => unreachable!(),
+        }
     }
 
     /// The same state once more.

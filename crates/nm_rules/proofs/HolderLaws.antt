@@ -1,0 +1,224 @@
+-- Laws of the list of holders: it rises, has just the instances of the rows, and is no longer than these.
+use Rattle.std.proofs.Common.{◌≡◌, ◌≤◌, ◌<◌, ℕ, zero, suc, ◌+◌, Bool, true, false, cond, Result, Ok, Err, List, [], ◌∷◌, length, refl, ap, sym, ◌∙◌, arith, rules}
+use Rattle.std.specs.Prelude.{◌==◌, ◌&&◌, ◌||◌, not, filter}
+use Rattle.std.specs.List.{list_any, insert, HoldsAt, AllWithin, AllAdjacentBelow}
+use Rattle.std.specs.List.Sorted.{IsNonDecreasingBy, IsSearchInRange, IsBinarySearchResult}
+use Rattle.std.specs.Result.{MatchResult}
+use Rattle.std.proofs.lemmas.List.Sorted.{IsNonDecreasingBy-from_all_adjacent}
+use Rattle.std.specs.Cmp.{IsTotalOrder}
+use Rattle.std.specs.Cmp.Rules.{comparing}
+use Rattle.std.specs.Cmp.Lexicographic.{slice_cmp}
+use Rattle.std.specs.Ordering.{is_lt, nat_cmp, ordering_index, ordering_reverse, ordering_then}
+use Rattle.std.specs.declared.cmp.Ordering.{Ordering}
+use Rattle.std.specs.declared.cmp.Ordering.TheVariants.{Less, Equal, Greater}
+use Rattle.std.proofs.lemmas.Map.Lookups.{exact_bytes, exact_unsigned}
+use Rattle.nm_rules.specs.Parties.{Party, same_party, party_cmp}
+use Rattle.nm_rules.specs.Holders.{put_by, put_party, holders_of, rises_after, parties_rise, is_among}
+use Rattle.nm_rules.specs.Shares.{OpenWord, put_open, opens_after}
+use Rattle.nm_rules.specs.Shares.OpenWord.{Keep, Put, Drop, DropOf}
+use Rattle.nm_rules.specs.Past.{words}
+use Rattle.nm_rules.specs.Seen.{Seen, look, after, after_words}
+use Rattle.nm_rules.specs.declared.calls.Event.{Event}
+use Rattle.nm_rules.specs.declared.calls.Reply.{Reply}
+use Rattle.nm_rules.specs.declared.rows.OpenRow.{OpenRow}
+
+pub party_cmp-total : IsTotalOrder party_cmp
+party_cmp-total = search (comparing, rules) depth 12
+
+then_parts : (o p : Ordering) → ordering_then o p ≡ Equal → (o ≡ Equal) × (p ≡ Equal)
+then_parts Less p e = cc
+then_parts Equal p e = (refl, e)
+then_parts Greater p e = cc
+
+-- only a party itself stands where it stands
+pub party_cmp-is : (a b : Party) → party_cmp a b ≡ Equal → a ≡ b
+party_cmp-is a b e =
+    let id = then_parts (slice_cmp nat_cmp a.id b.id) _ e in
+    let verifier = then_parts (nat_cmp a.verifier b.verifier) _ id.1 in
+    let flavor = then_parts (nat_cmp a.principal.flavor b.principal.flavor) _ verifier.1 in
+    λ i. record {
+      id = exact_bytes a.id b.id id.0 i;
+      verifier = exact_unsigned a.verifier b.verifier verifier.0 i;
+      principal = record {
+        flavor = exact_unsigned a.principal.flavor b.principal.flavor flavor.0 i;
+        uid = exact_unsigned a.principal.uid b.principal.uid flavor.1 i;
+      };
+    }
+
+-- one party stands before another where that one stands after it
+pub party_cmp-back : (a b : Party) → party_cmp a b ≡ Greater → party_cmp b a ≡ Less
+party_cmp-back a b e = party_cmp-total.antisymm b a ∙ ap ordering_reverse e
+
+or_swap : (a b c : Bool) → (a || (b || c)) ≡ (b || (a || c))
+or_swap true true c = refl
+or_swap true false c = refl
+or_swap false b c = refl
+
+or_twice : (a c : Bool) → (a || c) ≡ (a || (a || c))
+or_twice true c = refl
+or_twice false c = refl
+
+-- the list after a put has the party, and what was there
+pub among-put : (p party : Party) (xs : List Party) → is_among p (put_party party xs) ≡ (same_party p party || is_among p xs)
+among-put p party [] = refl
+among-put p party (x ∷ xs) = by_place (party_cmp x party) refl (among-put p party xs)
+  where
+    by_place : (o : Ordering) → party_cmp x party ≡ o → is_among p (put_party party xs) ≡ (same_party p party || is_among p xs)
+        → is_among p (put_by o party x xs (put_party party xs)) ≡ (same_party p party || (same_party p x || is_among p xs))
+    by_place Less place later = ap (λ b. same_party p x || b) later ∙ or_swap (same_party p x) (same_party p party) (is_among p xs)
+    by_place Equal place later =
+        or_twice (same_party p x) (is_among p xs) ∙ ap (λ q. same_party p q || (same_party p x || is_among p xs)) (party_cmp-is x party place)
+    by_place Greater place later = refl
+
+-- a party is a holder just where some row is its own
+pub among-holders : (p : Party) (rows : List OpenRow) → is_among p (holders_of rows) ≡ list_any (λ (row : OpenRow). same_party p row.owner.instance) rows
+unfolding holders_of
+among-holders p [] = refl
+among-holders p (row ∷ rows) =
+    among-put p row.owner.instance (holders_of rows) ∙ ap (λ b. same_party p row.owner.instance || b) (among-holders p rows)
+
+both : (a b : Bool) → a ≡ true → b ≡ true → (a && b) ≡ true
+both a b x y = rw (x, y) refl
+
+lt_parts : (o : Ordering) (b : Bool) → (is_lt o && b) ≡ true → (o ≡ Less) × (b ≡ true)
+lt_parts Less b h = (refl, h)
+lt_parts Equal b h = cc
+lt_parts Greater b h = cc
+
+-- what rises after a party still does with one put behind it
+pub rises_after-put : (before party : Party) (xs : List Party) → rises_after before xs ≡ true → party_cmp before party ≡ Less → rises_after before (put_party party xs) ≡ true
+rises_after-put before party [] rises above = rw above refl
+rises_after-put before party (x ∷ xs) rises above =
+    let parts = lt_parts (party_cmp before x) (rises_after x xs) rises in
+    by_place (party_cmp x party) refl (rises_after-put x party xs parts.1)
+  where
+    by_place : (o : Ordering) → party_cmp x party ≡ o → (party_cmp x party ≡ Less → rises_after x (put_party party xs) ≡ true)
+        → rises_after before (put_by o party x xs (put_party party xs)) ≡ true
+    by_place Less place later = both _ _ (ap is_lt (lt_parts (party_cmp before x) (rises_after x xs) rises).0) (later place)
+    by_place Equal place later = rises
+    by_place Greater place later = both _ _ (ap is_lt above) (both _ _ (ap is_lt (party_cmp-back x party place)) (lt_parts (party_cmp before x) (rises_after x xs) rises).1)
+
+-- a put keeps the list rising
+pub parties_rise-put : (party : Party) (xs : List Party) → parties_rise xs ≡ true → parties_rise (put_party party xs) ≡ true
+parties_rise-put party [] rises = refl
+parties_rise-put party (x ∷ xs) rises = by_place (party_cmp x party) refl
+  where
+    by_place : (o : Ordering) → party_cmp x party ≡ o → parties_rise (put_by o party x xs (put_party party xs)) ≡ true
+    by_place Less place = rises_after-put x party xs rises place
+    by_place Equal place = rises
+    by_place Greater place = both _ _ (ap is_lt (party_cmp-back x party place)) rises
+
+-- so holders rise
+pub parties_rise-holders : (rows : List OpenRow) → parties_rise (holders_of rows) ≡ true
+unfolding holders_of
+parties_rise-holders [] = refl
+parties_rise-holders (row ∷ rows) = parties_rise-put row.owner.instance (holders_of rows) (parties_rise-holders rows)
+
+-- a put adds one party or none
+pub length-put : (party : Party) (xs : List Party) → (length xs ≤ length (put_party party xs)) × (length (put_party party xs) ≤ length xs + 1)
+length-put party [] = (omega arith, omega arith)
+length-put party (x ∷ xs) = by_place (party_cmp x party) (length-put party xs)
+  where
+    by_place : (o : Ordering) → (length xs ≤ length (put_party party xs)) × (length (put_party party xs) ≤ length xs + 1)
+        → (length (x ∷ xs) ≤ length (put_by o party x xs (put_party party xs))) × (length (put_by o party x xs (put_party party xs)) ≤ length (x ∷ xs) + 1)
+    by_place Less later = (omega (arith, later.0), omega (arith, later.1))
+    by_place Equal later = (omega arith, omega arith)
+    by_place Greater later = (omega arith, omega arith)
+
+-- there are no more holders than rows
+pub holders_fit : (rows : List OpenRow) → length (holders_of rows) ≤ length rows
+unfolding holders_of
+holders_fit [] = omega arith
+holders_fit (row ∷ rows) = omega (arith, (length-put row.owner.instance (holders_of rows)).1, holders_fit rows)
+
+-- ---- Where a binary search puts a party
+
+-- of two parties that rise the first stands no further behind a third
+steps_up : (p a b : Party) → party_cmp a b ≡ Less → ordering_index (party_cmp a p) ≤ ordering_index (party_cmp b p)
+steps_up p a b rises = by_second (party_cmp b p) refl
+  where
+    last : (o : Ordering) → ordering_index o ≤ 2
+    last Less = omega arith
+    last Equal = omega arith
+    last Greater = omega arith
+
+    by_second : (o : Ordering) → party_cmp b p ≡ o → ordering_index (party_cmp a p) ≤ ordering_index o
+    by_second Less below = rw (party_cmp-total.trans a b p rises below) (omega arith)
+    by_second Equal same = rw (← party_cmp-is b p same, rises) (omega arith)
+    by_second Greater above = last (party_cmp a p)
+
+next_rises : (p : Party) (xs : List Party) → parties_rise xs ≡ true → AllAdjacentBelow (λ x y. ordering_index (party_cmp x p) ≤ ordering_index (party_cmp y p)) xs (length xs)
+next_rises p [] rises k d below = absurd (omega (arith, below))
+next_rises p (x ∷ []) rises k d below = absurd (omega (arith, below))
+next_rises p (x ∷ y ∷ ys) rises zero d below = steps_up p x y (lt_parts (party_cmp x y) (rises_after y ys) rises).0
+next_rises p (x ∷ y ∷ ys) rises (suc k) d below =
+    let next : suc k + 1 ≡ suc (k + 1) = omega arith in
+    rw next (next_rises p (y ∷ ys) (lt_parts (party_cmp x y) (rises_after y ys) rises).1 k d (omega (arith, below)))
+
+-- in a rising list the parties before a party come first, and those behind it last
+places_rise : (p : Party) (xs : List Party) → parties_rise xs ≡ true → IsNonDecreasingBy (λ y. ordering_index (party_cmp y p)) xs
+places_rise p xs rises = IsNonDecreasingBy-from_all_adjacent (λ y. ordering_index (party_cmp y p)) xs (next_rises p xs rises)
+
+rest_rises : (x : Party) (xs : List Party) → parties_rise (x ∷ xs) ≡ true → parties_rise xs ≡ true
+rest_rises x [] rises = refl
+rest_rises x (y ∷ ys) rises = (lt_parts (party_cmp x y) (rises_after y ys) rises).1
+
+-- a party that is there stays
+pub put_found : (p : Party) (xs : List Party) (i : ℕ) → parties_rise xs ≡ true → i < length xs → HoldsAt (λ y. party_cmp y p ≡ Equal) xs i → put_party p xs ≡ xs
+put_found p [] i rises below found = absurd (omega (arith, below))
+put_found p (x ∷ xs) zero rises below found = rw (found x) refl
+put_found p (x ∷ xs) (suc i) rises below found =
+    by_place (party_cmp x p) (omega (arith, places_rise p (x ∷ xs) rises 0 (suc i) x (omega arith) below, ap ordering_index (found x))) (put_found p xs i (rest_rises x xs rises) (omega (arith, below)) found)
+  where
+    by_place : (o : Ordering) → ordering_index o ≤ 1 → put_party p xs ≡ xs → put_by o p x xs (put_party p xs) ≡ x ∷ xs
+    by_place Less le later = ap (λ ys. x ∷ ys) later
+    by_place Equal le later = refl
+    by_place Greater le later = absurd (omega (arith, le))
+
+-- a party that isn't comes in between
+pub put_missing : (p : Party) (xs : List Party) (i : ℕ) → i ≤ length xs → AllWithin (λ y. party_cmp y p ≡ Less) xs 0 i → AllWithin (λ y. party_cmp y p ≡ Greater) xs i (length xs)
+    → put_party p xs ≡ insert xs i p
+put_missing p [] zero fits before behind = refl
+put_missing p [] (suc i) fits before behind = absurd (omega (arith, fits))
+put_missing p (x ∷ xs) zero fits before behind = rw (behind 0 x (omega arith) (omega arith)) refl
+put_missing p (x ∷ xs) (suc i) fits before behind =
+    rw (before 0 x (omega arith) (omega arith))
+    (ap (λ ys. x ∷ ys) (put_missing p xs i (omega (arith, fits)) (λ k d low high. before (suc k) d (omega arith) (omega (arith, high))) (λ k d low high. behind (suc k) d (omega (arith, low)) (omega (arith, high)))))
+
+-- what a binary search answers is the place of a put
+pub put_by_search : (p : Party) (xs : List Party) (r : Result ℕ ℕ) → parties_rise xs ≡ true → IsSearchInRange r (length xs) → IsBinarySearchResult (λ y. party_cmp y p) xs r
+    → MatchResult r (λ _. put_party p xs ≡ xs) (λ i. put_party p xs ≡ insert xs i p)
+put_by_search p xs (Ok i) rises range found = put_found p xs i rises range found
+put_by_search p xs (Err i) rises range missing =
+    let parts = missing (places_rise p xs rises) in
+    put_missing p xs i range parts.0 parts.1
+
+-- ---- How many rows an event leaves
+
+length-put_open : (row : OpenRow) (rows : List OpenRow) → length (put_open row rows) ≤ length rows + 1
+length-put_open row [] = omega arith
+length-put_open row (x ∷ xs) = by_head (x.counter == row.counter) (length-put_open row xs)
+  where
+    by_head : (b : Bool) → length (put_open row xs) ≤ length xs + 1 → length (cond b (row ∷ xs) (x ∷ put_open row xs)) ≤ length (x ∷ xs) + 1
+    by_head true later = omega arith
+    by_head false later = omega (arith, later)
+
+length-filter-le : (p : OpenRow → Bool) (rows : List OpenRow) → length (filter p rows) ≤ length rows
+length-filter-le p [] = omega arith
+length-filter-le p (x ∷ xs) = by_head (p x) (length-filter-le p xs)
+  where
+    by_head : (b : Bool) → length (filter p xs) ≤ length xs → length (cond b (x ∷ filter p xs) (filter p xs)) ≤ length (x ∷ xs)
+    by_head true later = omega (arith, later)
+    by_head false later = omega (arith, later)
+
+opens_grow : (word : OpenWord) (rows : List OpenRow) → length (opens_after word rows) ≤ length rows + 1
+unfolding opens_after
+opens_grow Keep rows = omega arith
+opens_grow (Put row) rows = length-put_open row rows
+opens_grow (Drop counter) rows = omega (arith, length-filter-le (λ (x : OpenRow). not (x.counter == counter)) rows)
+opens_grow (DropOf party) rows = omega (arith, length-filter-le (λ (x : OpenRow). not (same_party party x.owner.instance)) rows)
+
+-- an event adds at most one row
+pub rows_grow : (s : Seen) (event : Event) (reply : Reply) → length (after s event reply).opens ≤ length s.opens + 1
+unfolding after_words
+rows_grow s event reply = opens_grow (words (look s) event reply).opens s.opens
