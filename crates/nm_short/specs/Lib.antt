@@ -1,3 +1,4 @@
 pub mod Known
 pub mod ShortRun
+pub mod Slots
 pub mod Tables

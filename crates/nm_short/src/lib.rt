@@ -3,3 +3,4 @@
 #![tactic(auto)]
 
 mod clients;
+mod slots;
