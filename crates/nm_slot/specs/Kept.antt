@@ -1,15 +1,29 @@
 -- What a slot keeps, and what contracts see of it.
-use Rattle.std.specs.Prelude.{◌≡◌, ◌≤◌, ◌<◌, ◌^◌, ℕ, Bool, true, false, List, [], Option, Some, None, length, option_map, vec_capacity}
+use Rattle.std.specs.Prelude.{◌≡◌, ◌≤◌, ◌<◌, ◌^◌, ◌+◌, ◌⊎◌, ℕ, Bool, true, false, List, [], Option, Some, None, length, option_map, vec_capacity}
 use Rattle.nm_rules.specs.Parties.{Party}
+use Rattle.nm_rules.specs.Answer.{answer_to}
+use Rattle.nm_rules.specs.Holders.{holders}
+use Rattle.nm_rules.specs.declared.calls.Call.{Call}
+use Rattle.nm_rules.specs.declared.calls.Event.{Event}
+use Rattle.nm_rules.specs.declared.calls.Event.TheVariants.{Asked}
+use Rattle.nm_rules.specs.declared.calls.Reply.{Reply}
+use Rattle.nm_rules.specs.declared.calls.Verdict.{Verdict}
 use Rattle.nm_state.specs.State.{StateNow}
+use Rattle.nm_slot.specs.declared.answers.Answer.{Answer}
+use Rattle.nm_slot.specs.declared.answers.Answer.TheVariants as answer
+use Rattle.nm_slot.specs.declared.answers.Begin.{Begin}
+use Rattle.nm_slot.specs.declared.answers.Begin.TheVariants as begin
 use Rattle.nm_slot.specs.declared.image.Image.{Image}
 use Rattle.nm_slot.specs.declared.stage.Doing.{Doing as KeptDoing}
 use Rattle.nm_slot.specs.declared.stage.Doing.TheVariants as kept_doing
 use Rattle.nm_slot.specs.declared.stage.Stage.{Stage as KeptStage}
 use Rattle.nm_slot.specs.declared.stage.Stage.TheVariants as kept_stage
 use Rattle.nm_slot.specs.Images.{offer_of, MayBeOffered}
-use Rattle.nm_slot.specs.Answers.{is_offer_of}
-use Rattle.nm_slot.specs.SlotNow.{Doing, Stage, Offer, SlotNow, nothing_yet}
+use Rattle.nm_slot.specs.Answers.{is_offer_of, committed, committed_away, applied}
+use Rattle.nm_slot.specs.Changes.{dest_at, slot_after}
+use Rattle.nm_slot.specs.SlotNow.{Doing, Stage, Offer, Own, SlotView, SlotNow, HandedOver, nothing_yet, phase_of}
+use Rattle.nm_slot.specs.SlotNow.SlotStep.{Applying}
+use Rattle.nm_slot.specs.SlotNow.HandedOver.{Committed, Again, Dead}
 use Rattle.nm_slot.specs.SlotNow.Doing.{Serves, Closes, Froze}
 use Rattle.nm_slot.specs.SlotNow.Stage.{Away, Here}
 
@@ -46,15 +60,28 @@ abbrev pub AreHeldWell : (fs its_room : ℕ) → Option Image → Type 0
 AreHeldWell fs its_room None = Unit {0}
 AreHeldWell fs its_room (Some image) = IsHeldWell fs its_room image
 
--- A move under way has a number, and the epoch that it begins follows one.
-abbrev pub IsNumbered : ℕ → KeptDoing → Type 0
-IsNumbered epoch kept_doing.Serves = Unit {0}
-IsNumbered epoch (kept_doing.Closes dest number) = (number ≤ 2 ^ 63) × (epoch < 2 ^ 63)
-IsNumbered epoch (kept_doing.Froze dest number) = (number ≤ 2 ^ 63) × (epoch < 2 ^ 63)
+abbrev pub number_of : KeptDoing → ℕ
+number_of kept_doing.Serves = 0
+number_of (kept_doing.Closes dest number) = number
+number_of (kept_doing.Froze dest number) = number
 
-abbrev pub IsStaged : (fs its_room epoch : ℕ) → KeptStage → Type 0
-IsStaged fs its_room epoch (kept_stage.Away held) = AreHeldWell fs its_room held
-IsStaged fs its_room epoch (kept_stage.Here doing state) = (state.spent ≡ false → IsReady fs its_room state) × IsNumbered epoch doing
+-- the epoch that an install would begin, or the one that is
+abbrev pub epoch_after : ℕ → KeptDoing → ℕ
+epoch_after epoch kept_doing.Serves = epoch
+epoch_after epoch (kept_doing.Closes dest number) = epoch + 1
+epoch_after epoch (kept_doing.Froze dest number) = epoch + 1
+
+-- A move under way has a number, and the epoch has a next one.
+pub record IsNumbered (its_epoch : ℕ) (doing : KeptDoing) : Type 0 where
+  pub number : number_of doing ≤ 2 ^ 63
+  pub epoch : epoch_after its_epoch doing ≤ 2 ^ 63
+
+abbrev pub StageFacts : (fs its_room epoch : ℕ) → KeptStage → Type 0
+StageFacts fs its_room epoch (kept_stage.Away held) = AreHeldWell fs its_room held × (epoch ≤ 2 ^ 63)
+StageFacts fs its_room epoch (kept_stage.Here doing state) = (state.spent ≡ false → IsReady fs its_room state) × IsNumbered epoch doing
+
+pub record IsStaged (fs its_room epoch : ℕ) (stage : KeptStage) : Type 0 where
+  pub facts : StageFacts fs its_room epoch stage
 
 -- What is true of every slot.
 pub record IsKept (fs epoch its_count its_passes its_room : ℕ) (list : List Party) (its_stage : KeptStage) : Type 0 where
@@ -67,6 +94,7 @@ pub record IsKept (fs epoch its_count its_passes its_room : ℕ) (list : List Pa
 pub record TookIt (number : ℕ) (old : KeptStage) (taken : Option Image) (new : KeptStage) : Type 0 where
   pub offer : option_map offer_of taken ≡ held_of old
   pub away : stage_of old ≡ Away
+  pub unspent : spent_of old ≡ false
   pub left : new ≡ kept_stage.Away None
   pub well : (fs its_room epoch : ℕ) → IsStaged fs its_room epoch old → AreHeldWell fs its_room taken
 
@@ -74,12 +102,12 @@ pub record LeftIt (old : KeptStage) (taken : Option Image) (new : KeptStage) : T
   pub none : taken ≡ None
   pub left : new ≡ old
 
+abbrev pub took_by : Bool → ℕ → KeptStage → Option Image → KeptStage → Type 0
+took_by true number old taken new = TookIt number old taken new
+took_by false number old taken new = LeftIt old taken new
+
 abbrev pub Took : ℕ → KeptStage → Option Image → KeptStage → Type 0
-Took number old taken new = by_test (is_offer_of number (held_of old))
-  where
-    by_test : Bool → Type 0
-    by_test true = TookIt number old taken new
-    by_test false = LeftIt old taken new
+Took number old taken new = took_by (is_offer_of number (held_of old)) number old taken new
 
 -- a state that is served, or none
 abbrev pub first_stage : Option StateNow → Stage
@@ -96,3 +124,75 @@ first_slot fs serving = record {
   view = record { fs = fs; stage = first_stage serving; own = nothing_yet };
   spent = first_spent serving;
 }
+
+abbrev pub rows_of : KeptStage → ℕ
+rows_of (kept_stage.Away held) = 0
+rows_of (kept_stage.Here doing state) = length state.seen.opens
+
+abbrev pub is_here : KeptStage → Bool
+is_here (kept_stage.Away held) = false
+is_here (kept_stage.Here doing state) = true
+
+-- those who hold something in the state that is here
+abbrev pub holders_at : Stage → List Party
+holders_at Away = []
+holders_at (Here doing state) = holders state
+
+-- where a commit of that number hands nothing over
+abbrev pub refused_at : ℕ → Stage → Own → HandedOver
+refused_at number (Here doing state) own = Dead own.known
+refused_at number Away own = committed_away number own.held own
+
+pub record Hands (number to : ℕ) (stage : KeptStage) : Type 0 where
+  pub holders : (own : Own) → committed number (stage_of stage) own ≡ Committed (holders_at (stage_of stage))
+  pub dest : dest_at (stage_of stage) ≡ to
+  pub free : held_of stage ≡ None
+
+-- Where the state is on offer by the move of that number, its commit hands it over to that destination.
+abbrev pub OffersTo : ℕ → KeptStage → Option ℕ → Type 0
+OffersTo number stage (Some dest) = Hands number dest stage
+OffersTo number stage None = (own : Own) → committed number (stage_of stage) own ≡ refused_at number (stage_of stage) own
+
+-- the reply is the state's answer
+abbrev pub IsReplyAt : Stage → Event → Reply → Type 0
+IsReplyAt Away event reply = Unit {0}
+IsReplyAt (Here doing state) event reply = reply ≡ answer_to state event
+
+abbrev pub is_staged : Stage → Bool
+is_staged Away = false
+is_staged (Here doing state) = true
+
+-- A call goes on to the state that is here.
+abbrev pub Goes : ℕ → Stage → Own → Type 0
+Goes epoch Away own = ⊥
+Goes epoch (Here doing state) own = ((call : Call) (verdict : Verdict)
+    → applied epoch call verdict (Here doing state) own ≡ answer.Done (own.count + 1) (answer_to state (Asked call verdict))) × (own.count < 2 ^ 63)
+
+-- What stops a call is its answer, and changes nothing.
+pub record IsStopped (epoch : ℕ) (stage : Stage) (own : Own) (a : Answer) : Type 0 where
+  pub answer : (call : Call) (verdict : Verdict) → applied epoch call verdict stage own ≡ a
+  pub same : (v : SlotView) (at : ℕ) (call : Call) (verdict : Verdict) → slot_after v (Applying at call verdict a) ≡ v
+
+abbrev pub Stops : ℕ → Stage → Own → Option Answer → Type 0
+Stops epoch stage own (Some a) = IsStopped epoch stage own a
+Stops epoch stage own None = Goes epoch stage own
+
+-- After want of memory a slot is as it was, or its state was spent in this call, and it remembers and does what it did.
+pub record IsSpentBy (old new : SlotNow) : Type 0 where
+  pub spent : new.spent ≡ true
+  pub own : new.view.own ≡ old.view.own
+  pub phase : phase_of new.view ≡ phase_of old.view
+
+abbrev pub IsKeptOrSpent : SlotNow → SlotNow → Type 0
+IsKeptOrSpent old new = (new ≡ old) ⊎ IsSpentBy old new
+
+-- What begins a move has a number, and the epoch a successor.
+abbrev pub MayBegin : ℕ → Begin → Type 0
+MayBegin epoch (begin.Begun number) = (number ≤ 2 ^ 63) × (epoch < 2 ^ 63)
+MayBegin epoch _ = Unit {0}
+
+-- what is handed over is gone
+abbrev pub spent_after : HandedOver → Bool → Bool
+spent_after (Committed parties) spent = false
+spent_after Again spent = spent
+spent_after (Dead current) spent = spent

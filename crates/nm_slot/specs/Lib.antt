@@ -2,8 +2,11 @@ pub mod Answers
 pub mod Changes
 pub mod Door
 pub mod History
+pub mod Images
+pub mod Kept
 pub mod Laws
 pub mod Moves
 pub mod Passes
 pub mod Phases
+pub mod Shown
 pub mod SlotNow

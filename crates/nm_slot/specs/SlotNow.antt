@@ -63,6 +63,12 @@ pub record SlotView : Type 0 where
   pub stage : Stage
   pub own : Own
 
+-- A slot in clauses: what the server has of the file system, and whether memory was wanting in the middle of a call, so
+-- that its state answers want of memory alone.
+pub record SlotNow : Type 0 where
+  pub view : SlotView
+  pub spent : Bool
+
 -- a server that had no part in a file system yet
 abbrev pub nothing_yet : Own
 nothing_yet = record { held = None; left = None; known = 0; installed = 0; epoch = 0; count = 0; out = 0 }

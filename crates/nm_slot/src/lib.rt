@@ -3,10 +3,15 @@
 #![tactic(auto)]
 
 mod answers;
+mod destination;
+mod door;
 mod image;
 mod laws;
 mod pass;
 mod phase;
+mod slot;
+mod source;
+mod stage;
 
 pub use answers::{Abandon, Accept, Answer, Begin, Commit, Enter, Freeze, Install};
 pub use image::Image;
@@ -16,3 +21,4 @@ pub use laws::{
 };
 pub use pass::FsPass;
 pub use phase::Phase;
+pub use slot::Slot;

@@ -1,15 +1,12 @@
 //! A file system at one server.
-ghost use Rattle.std.specs.Prelude.{◌≡◌, ◌≤◌, ◌^◌, option_map, IfOk, IfSome, false};
-ghost use Rattle.nm_slot.specs.Answers.{enter_answer};
-ghost use Rattle.nm_slot.specs.Changes.{slot_after};
+ghost use Rattle.std.specs.Prelude.{◌≡◌, option_map, IfOk, IfSome, false};
 ghost use Rattle.nm_slot.specs.Images.{offer_of};
 ghost use Rattle.nm_slot.specs.Kept.{doing_of, first_slot};
 ghost use Rattle.nm_slot.specs.Shown.{table_answer};
 ghost use Rattle.nm_slot.specs.SlotNow.{phase_of, phase_away, phase_here};
-ghost use Rattle.nm_slot.specs.SlotNow.SlotStep.{Entering, Leaving};
 
 use crate::stage::{Doing, Left, Stage};
-use crate::{Enter, FsPass, Image, Phase};
+use crate::{Image, Phase};
 use nm_rules::{Epoch, FsNum, HeldTable, Instance, Memory, MoveNum};
 use nm_state::FsState;
 use std::alloc::Global;
@@ -59,9 +56,6 @@ impl Model for Slot {
 
     ghost invariant = { λ s. IsKept s.fs s.epoch s.count s.passes (vec_capacity s.room) s.room.items s.stage };
 }
-
-/// As many passes may be out.
-const MOST_PASSES: u64 = 1 << 63;
 
 // What a server does that has no state.
 fn phase_away(held: &Option<Image>, left: Option<Left>, epoch: Epoch) -> Phase
@@ -171,52 +165,5 @@ impl Slot {
                 None => Ok(None),
             },
         }
-    }
-
-    // What the door answers.
-    #[tactic(auto, unfolding(crate::specs::Answers::enter_answer))]
-    fn door(&self) -> Enter
-        ensures { result ≡ enter_answer self.now.view }
-    {
-        match self.phase() {
-            Phase::Serving => {
-                if self.passes >= MOST_PASSES {
-                    return Enter::Full {
-                        passes: self.passes,
-                    };
-                }
-                Enter::Entered(FsPass {
-                    fs: self.fs,
-                    epoch: self.epoch,
-                })
-            }
-            Phase::Closing { .. } | Phase::Frozen { .. } | Phase::Incoming { .. } => Enter::Delay,
-            Phase::Gone { dest, .. } => Enter::Moved { dest },
-            Phase::Never => Enter::Unknown,
-        }
-    }
-
-    /// Asks for a pass. It is given where the file system is served, up to 2^63 at a time.
-    #[tactic(auto, unfolding(crate::specs::Answers::enter_answer, crate::specs::Changes::slot_after))]
-    pub fn enter(&mut self) -> Enter
-        ensures answer { result ≡ enter_answer self.old.view }
-        ensures after { self.new.view ≡ slot_after self.old.view (Entering result) }
-        ensures spent { self.new.spent ≡ self.old.spent }
-    {
-        let answer = self.door();
-        match &answer {
-            Enter::Entered(_) => self.passes += 1,
-            Enter::Full { .. } | Enter::Delay | Enter::Moved { .. } | Enter::Unknown => {}
-        }
-        answer
-    }
-
-    /// Gives a pass back. Where none is out nothing changes.
-    #[tactic(auto, unfolding(crate::specs::Changes::slot_after))]
-    pub fn leave(&mut self, pass: FsPass)
-        ensures after { self.new.view ≡ slot_after self.old.view (Leaving pass.epoch) }
-        ensures spent { self.new.spent ≡ self.old.spent }
-    {
-        self.passes = self.passes.saturating_sub(1);
     }
 }

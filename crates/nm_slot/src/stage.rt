@@ -1,12 +1,18 @@
 //! Whether the state of a file system is at a server, and what the server does with it.
-ghost use Rattle.std.specs.Prelude.{◌≡◌, ℕ, None, true, false, option_map, if◌then◌else◌};
-ghost use Rattle.nm_slot.specs.Answers.{is_offer_of};
-ghost use Rattle.nm_slot.specs.Changes.{with_doing};
+ghost use Rattle.std.specs.Prelude.{[], Option, ◌≡◌, ◌≤◌, ◌+◌, ℕ, None, true, false, length, option_map, IfOk, OnOk, OnErr};
+ghost use Rattle.std.specs.Vec.{vec_capacity};
+ghost use Rattle.nm_rules.specs.declared.calls.Event.TheVariants.{Asked};
+ghost use Rattle.nm_slot.specs.Answers.{frozen, abandoned, abandoned_away};
+ghost use Rattle.nm_slot.specs.Changes.{with_doing, stage_after, stage_called};
 ghost use Rattle.nm_slot.specs.Images.{offer_of};
-ghost use Rattle.nm_slot.specs.Kept.{doing_of, stage_of, held_of, spent_of, IsStaged, IsNumbered, Took};
+ghost use Rattle.nm_slot.specs.Kept.{doing_of, stage_of, held_of, spent_of, rows_of, is_here, IsStaged, IsNumbered, Took, OffersTo, IsReplyAt, holders_at};
+ghost use Rattle.nm_slot.specs.SlotNow.{Own, Offer, phase_at};
+ghost use Rattle.nm_rules.specs.Seen.{Seen};
+ghost use Rattle.nm_slot.specs.SlotNow.Stage.{Here as IsHere};
+ghost use Rattle.nm_slot.specs.SlotNow.SlotStep.{Freezing, Abandoning};
 
-use crate::Image;
-use nm_rules::{MoveNum, ServerNum};
+use crate::{Abandon, Freeze, Image};
+use nm_rules::{Event, Instance, Memory, MoveNum, Reply, ServerNum};
 use nm_state::FsState;
 use std::marker::Model;
 use std::mem;
@@ -39,6 +45,53 @@ pub(crate) enum Doing {
     Froze { dest: ServerNum, number: MoveNum },
 }
 
+impl Doing {
+    // The state is frozen for the move that waits, once no pass is out: what is done with it then, and the answer.
+    fn freeze(self, passes: u64) -> (Doing, Freeze)
+        ensures answer { (state : Seen) (own : Own) → own.out ≡ passes → result.1 ≡ frozen (IsHere (doing_of self) state) own }
+        ensures after { (state : Seen) (held : Option Offer) → IsHere (doing_of result.0) state ≡ stage_after (Freezing result.1) held (IsHere (doing_of self) state) }
+        ensures numbered { (epoch : ℕ) → IsNumbered epoch self → IsNumbered epoch result.0 }
+    {
+        match self {
+            Doing::Serves => (self, Freeze::Idle),
+            Doing::Closes { dest, number } => {
+                if passes > 0 {
+                    return (self, Freeze::Waiting { passes });
+                }
+                (Doing::Froze { dest, number }, Freeze::Frozen(number))
+            }
+            Doing::Froze { number, .. } => (self, Freeze::Frozen(number)),
+        }
+    }
+
+    // The move under way is given up.
+    fn abandon(self) -> (Doing, Abandon)
+        ensures answer { (state : Seen) (own : Own) → result.1 ≡ abandoned (IsHere (doing_of self) state) own }
+        ensures after { (state : Seen) (held : Option Offer) → IsHere (doing_of result.0) state ≡ stage_after (Abandoning result.1) held (IsHere (doing_of self) state) }
+        ensures numbered { (epoch : ℕ) → IsNumbered epoch self → IsNumbered epoch result.0 }
+    {
+        match self {
+            Doing::Serves => (self, Abandon::Idle),
+            Doing::Closes { number, .. } | Doing::Froze { number, .. } => {
+                (Doing::Serves, Abandon::Back(number))
+            }
+        }
+    }
+}
+
+// What giving a move up is answered where the state isn't here.
+fn late(held: &Option<Image>, left: Option<Left>) -> Abandon
+    ensures { result ≡ abandoned_away (option_map offer_of held.now) left }
+{
+    match held {
+        Some(_) => Abandon::Idle,
+        None => match left {
+            Some(_) => Abandon::Late,
+            None => Abandon::Idle,
+        },
+    }
+}
+
 /// Whether the state is here. Where it isn't, an offer may be held.
 #[derive(Debug, Drop)]
 pub(crate) enum Stage {
@@ -47,6 +100,45 @@ pub(crate) enum Stage {
 }
 
 impl Stage {
+    /// Whether the state answers want of memory alone.
+    pub(crate) fn is_spent(&self) -> bool
+        ensures { result ≡ spent_of self.now }
+    {
+        match self {
+            Stage::Away(_) => false,
+            Stage::Here { state, .. } => state.is_spent(),
+        }
+    }
+
+    /// How many rows the state has that is here.
+    pub(crate) fn rows(&self) -> usize
+        ensures { result ≡ rows_of self.now }
+    {
+        match self {
+            Stage::Away(_) => 0,
+            Stage::Here { state, .. } => state.rows(),
+        }
+    }
+
+    /// Gives the move up that is under way.
+    #[tactic(auto, using(crate::proofs::StateLemmas::staged_turned))]
+    pub(crate) fn abandon(&mut self, left: Option<Left>) -> Abandon
+        ensures answer { (own : Own) → own.held ≡ held_of self.old → own.left ≡ left → result ≡ abandoned (stage_of self.old) own }
+        ensures after { (held : Option Offer) → stage_of self.new ≡ stage_after (Abandoning result) held (stage_of self.old) }
+        ensures held { held_of self.new ≡ held_of self.old }
+        ensures spent { spent_of self.new ≡ spent_of self.old }
+        ensures kept { (fs room epoch : ℕ) → IsStaged fs room epoch self.old → IsStaged fs room epoch self.new }
+    {
+        match self {
+            Stage::Away(held) => late(held, left),
+            Stage::Here { doing, .. } => {
+                let (next, answer) = doing.abandon();
+                *doing = next;
+                answer
+            }
+        }
+    }
+
     /// From now on this is done with the state that is here.
     pub(crate) fn turn(&mut self, to: Doing)
         ensures stage { stage_of self.new ≡ with_doing (doing_of to) (stage_of self.old) }
@@ -57,6 +149,56 @@ impl Stage {
         match self {
             Stage::Away(_) => {}
             Stage::Here { doing, .. } => *doing = to,
+        }
+    }
+
+    /// Freezes the state for the move that waits, once no pass is out.
+    #[tactic(auto, using(crate::proofs::StateLemmas::staged_turned))]
+    pub(crate) fn freeze(&mut self, passes: u64) -> Freeze
+        ensures answer { (own : Own) → own.out ≡ passes → result ≡ frozen (stage_of self.old) own }
+        ensures after { (held : Option Offer) → stage_of self.new ≡ stage_after (Freezing result) held (stage_of self.old) }
+        ensures held { held_of self.new ≡ held_of self.old }
+        ensures spent { spent_of self.new ≡ spent_of self.old }
+        ensures kept { (fs room epoch : ℕ) → IsStaged fs room epoch self.old → IsStaged fs room epoch self.new }
+    {
+        match self {
+            Stage::Away(_) => Freeze::Idle,
+            Stage::Here { doing, .. } => {
+                let (next, answer) = doing.freeze(passes);
+                *doing = next;
+                answer
+            }
+        }
+    }
+
+    /// The destination, where the state is on offer by the move of that number.
+    pub(crate) fn offers_to(&self, number: MoveNum) -> Option<ServerNum>
+        ensures { OffersTo number self.now result }
+    {
+        match self {
+            Stage::Away(_) => None,
+            Stage::Here { doing, .. } => match *doing {
+                Doing::Serves | Doing::Closes { .. } => None,
+                Doing::Froze { dest, number: its } => {
+                    if its == number { Some(dest) } else { None }
+                }
+            },
+        }
+    }
+
+    /// Lists who holds something in a state that is handed over.
+    pub(crate) fn list_holders(self, room: Vec<Instance>) -> Vec<Instance>
+        requires empty { room.items ≡ [] }
+        ensures { (fs epoch : ℕ) → spent_of self ≡ false → IsStaged fs (vec_capacity room) epoch self → result.items ≡ holders_at (stage_of self) }
+    {
+        match self {
+            Stage::Away(_) => room,
+            Stage::Here { state, .. } => {
+                if state.rows() > room.capacity() {
+                    return room;
+                }
+                state.list_holders(room)
+            }
         }
     }
 
@@ -79,6 +221,27 @@ impl Stage {
                 *self = stage;
                 None
             }
+        }
+    }
+
+    /// Carries a call out on the state that is here. After want of memory it is spent.
+    #[tactic(auto, using(crate::proofs::StateLemmas::staged_after, crate::proofs::StateLemmas::staged_spent))]
+    pub(crate) fn apply(&mut self, event: &Event) -> Result<Reply, Memory>
+        requires here { is_here self.old ≡ true }
+        ensures answer { IfOk result (λ r. IsReplyAt (stage_of self.old) event.now r) }
+        ensures after { IfOk result (λ r. stage_of self.new ≡ stage_called event.now r (stage_of self.old)) }
+        ensures ok { OnOk result (spent_of self.new ≡ false) }
+        ensures err { OnErr result (spent_of self.new ≡ true) }
+        ensures held { held_of self.new ≡ held_of self.old }
+        ensures phase { (own : Own) → phase_at (stage_of self.new) own ≡ phase_at (stage_of self.old) own }
+        ensures kept { (fs before room epoch : ℕ) → IsStaged fs before epoch self.old → rows_of self.old + 1 ≤ room → IsStaged fs room epoch self.new }
+    {
+        match self {
+            Stage::Away(_) => unreachable!(),
+            Stage::Here { state, .. } => match state.apply(event) {
+                Ok(reply) => Ok(reply),
+                Err(fault) => Err(fault),
+            },
         }
     }
 }

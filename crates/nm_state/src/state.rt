@@ -59,6 +59,13 @@ impl FsState {
         let _ = &self.spent;
     }
 
+    /// Whether it answers want of memory alone.
+    pub fn is_spent(&self) -> bool
+        ensures { result ≡ self.now.spent }
+    {
+        self.spent
+    }
+
     /// The reply that `apply` would give.
     pub fn answer(&self, event: &Event) -> Result<Reply, Memory>
         ensures answer { Answers self.now event.now result }
