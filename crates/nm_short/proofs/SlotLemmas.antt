@@ -1,11 +1,22 @@
 -- A step of one of the slots.
-use Rattle.std.proofs.Common.{◌≡◌, ◌<◌, ◌≤◌, ℕ, Bool, List, Option, Some, None, All, map, length, get_or, set, refl, ap, sym, ◌∙◌}
+use Rattle.std.proofs.Common.{◌≡◌, ◌<◌, ◌≤◌, ℕ, Bool, true, false, eqb, List, Option, Some, None, map, length, get_or, set, refl, ap, sym, ◌∙◌, arith}
 use Rattle.std.specs.Prelude.{slice_get, slice_set, option_map, unwrap_or}
-use Rattle.std.proofs.lemmas.List.{map-set, set_past, get_or-map, length-map}
-use Rattle.std.proofs.lemmas.List.Elements.{All-get_or, All-from_get_or}
+use Rattle.std.proofs.lemmas.Bool.Decides.{nat_tests}
+use Rattle.std.proofs.lemmas.List.{map-set, set_past, length-map}
 use Rattle.std.proofs.lemmas.Option.{slice_get-map, slice_get_read, slice_get_past}
+use Rattle.nm_rules.specs.declared.calls.Call.{Call}
+use Rattle.nm_rules.specs.declared.calls.Verdict.{Verdict}
+use Rattle.nm_slot.specs.declared.answers.Abandon.TheVariants as abandon
+use Rattle.nm_slot.specs.declared.answers.Answer.TheVariants as answer
+use Rattle.nm_slot.specs.declared.answers.Begin.TheVariants as begin
+use Rattle.nm_slot.specs.declared.answers.Enter.TheVariants as enter
+use Rattle.nm_slot.specs.declared.answers.Freeze.TheVariants as freeze
+use Rattle.nm_slot.specs.declared.phase.Phase.TheVariants as phase
+use Rattle.nm_slot.specs.Answers.{enter_answer, apply_answer, begin_answer, freeze_answer, image_answer, commit_answer, abandon_answer}
 use Rattle.nm_slot.specs.Changes.{slot_after}
-use Rattle.nm_slot.specs.SlotNow.{SlotNow, SlotView, SlotStep}
+use Rattle.nm_slot.specs.Shown.{table_answer}
+use Rattle.nm_slot.specs.SlotNow.{SlotNow, SlotView, SlotStep, phase_of}
+use Rattle.nm_slot.specs.SlotNow.HandedOver.{Dead}
 use Rattle.nm_short.specs.Tables.{no_part}
 use Rattle.nm_short.specs.Slots.{SlotsNow, view_of, slot_at, slots_after, AreOf}
 
@@ -13,22 +24,93 @@ pub slot_within : (fs : ℕ) (slots : List SlotNow) (s : ℕ) (slot : SlotNow) �
     → slot_at (record { fs = fs; views = map view_of slots }) s ≡ slot.view
 unfolding slot_at
 slot_within fs slots s slot below is =
-    rw slice_get-map view_of slots s (rw slice_get_read slots (length slots) s slot refl below is refl)
+    let found : slice_get (map view_of slots) s ≡ Some slot.view =
+        slice_get-map view_of slots s ∙ ap (option_map view_of) (slice_get_read slots (length slots) s slot refl below is)
+    in rw found refl
 
 pub slot_past : (fs : ℕ) (slots : List SlotNow) (s : ℕ) → length slots ≤ s
     → slot_at (record { fs = fs; views = map view_of slots }) s ≡ no_part fs
 unfolding slot_at
-slot_past fs slots s past = rw slice_get-map view_of slots s (rw slice_get_past slots s past refl)
+slot_past fs slots s past =
+    let none : slice_get (map view_of slots) s ≡ None =
+        slice_get-map view_of slots s ∙ ap (option_map view_of) (slice_get_past slots s past)
+    in rw none refl
+
+pub enter_past : (fs : ℕ) (slots : List SlotNow) (s : ℕ) → length slots ≤ s
+    → enter_answer (slot_at (record { fs = fs; views = map view_of slots }) s) ≡ enter.Unknown
+unfolding enter_answer
+enter_past fs slots s past = ap enter_answer (slot_past fs slots s past)
+
+pub apply_past : (fs : ℕ) (slots : List SlotNow) (s epoch : ℕ) (call : Call) (verdict : Verdict) → length slots ≤ s
+    → apply_answer (slot_at (record { fs = fs; views = map view_of slots }) s) epoch call verdict ≡ answer.Strayed epoch 0
+unfolding apply_answer
+apply_past fs slots s epoch call verdict past = ap (λ v. apply_answer v epoch call verdict) (slot_past fs slots s past)
+
+pub begin_past : (fs : ℕ) (slots : List SlotNow) (s here dest : ℕ) → length slots ≤ s
+    → begin_answer (slot_at (record { fs = fs; views = map view_of slots }) s) here dest ≡ begin.NotServed
+unfolding begin_answer
+begin_past fs slots s here dest past = ap (λ v. begin_answer v here dest) (slot_past fs slots s past)
+
+pub freeze_past : (fs : ℕ) (slots : List SlotNow) (s : ℕ) → length slots ≤ s
+    → freeze_answer (slot_at (record { fs = fs; views = map view_of slots }) s) ≡ freeze.Idle
+unfolding freeze_answer
+freeze_past fs slots s past = ap freeze_answer (slot_past fs slots s past)
+
+pub image_past : (fs : ℕ) (slots : List SlotNow) (s : ℕ) → length slots ≤ s
+    → image_answer (slot_at (record { fs = fs; views = map view_of slots }) s) ≡ None
+unfolding image_answer
+image_past fs slots s past = ap image_answer (slot_past fs slots s past)
+
+pub commit_past : (fs : ℕ) (slots : List SlotNow) (s number : ℕ) → length slots ≤ s
+    → commit_answer (slot_at (record { fs = fs; views = map view_of slots }) s) number ≡ Dead 0
+unfolding commit_answer
+commit_past fs slots s number past = ap (λ v. commit_answer v number) (slot_past fs slots s past)
+
+pub abandon_past : (fs : ℕ) (slots : List SlotNow) (s : ℕ) → length slots ≤ s
+    → abandon_answer (slot_at (record { fs = fs; views = map view_of slots }) s) ≡ abandon.Idle
+unfolding abandon_answer
+abandon_past fs slots s past = ap abandon_answer (slot_past fs slots s past)
+
+pub phase_past : (fs : ℕ) (slots : List SlotNow) (s : ℕ) → length slots ≤ s
+    → phase_of (slot_at (record { fs = fs; views = map view_of slots }) s) ≡ phase.Never
+unfolding phase_of
+phase_past fs slots s past = ap phase_of (slot_past fs slots s past)
+
+pub table_past : (fs : ℕ) (slots : List SlotNow) (s : ℕ) → length slots ≤ s
+    → table_answer (slot_at (record { fs = fs; views = map view_of slots }) s) ≡ None
+unfolding table_answer
+table_past fs slots s past = ap table_answer (slot_past fs slots s past)
 
 pub after_within : (fs : ℕ) (slots : List SlotNow) (s : ℕ) (slot new : SlotNow) (step : SlotStep) → s < length slots → slot ≡ get_or slots s slot
     → new.view ≡ slot_after slot.view step
     → ◌≡◌ {A = SlotsNow} (record { fs = fs; views = map view_of (set slots s new) }) (slots_after (record { fs = fs; views = map view_of slots }) s step)
 unfolding slots_after
 after_within fs slots s slot new step below is stepped =
-    rw (map-set view_of slots s new, stepped, slot_within fs slots s slot below is) refl
+    let its : slot_at (record { fs = fs; views = map view_of slots }) s ≡ slot.view = slot_within fs slots s slot below is in
+    rw (map-set view_of slots s new, stepped, its) refl
 
 pub after_past : (fs : ℕ) (slots : List SlotNow) (s : ℕ) (step : SlotStep) → length slots ≤ s
     → ◌≡◌ {A = SlotsNow} (slots_after (record { fs = fs; views = map view_of slots }) s step) (record { fs = fs; views = map view_of slots })
 unfolding slots_after
 after_past fs slots s step past =
-    rw set_past (map view_of slots) s (slot_after (slot_at (record { fs = fs; views = map view_of slots }) s) step) (rw length-map slots view_of past) refl
+    let same : slice_set (map view_of slots) s (slot_after (slot_at (record { fs = fs; views = map view_of slots }) s) step) ≡ map view_of slots =
+        set_past (map view_of slots) s _ (rw (length-map slots view_of) past)
+    in rw same refl
+
+is_of : (fs : ℕ) (slots : List SlotNow) (s : ℕ) (slot : SlotNow) → s < length slots → slot ≡ get_or slots s slot
+    → AreOf fs slots → slot.spent ≡ false → slot.view.fs ≡ fs
+is_of fs slots s slot below is are unspent =
+    let there : (get_or slots s slot).spent ≡ false → (get_or slots s slot).view.fs ≡ fs = are.each s slot below in
+    ap (λ (it : SlotNow). it.view.fs) is ∙ there (ap (λ (it : SlotNow). it.spent) (sym is) ∙ unspent)
+
+-- a slot in the place of one
+pub still_of : (fs : ℕ) (slots : List SlotNow) (s : ℕ) (new : SlotNow) → AreOf fs slots → (new.spent ≡ false → new.view.fs ≡ fs)
+    → AreOf fs (set slots s new)
+still_of fs slots s new are its = record {
+  each = λ k d below. at_place (eqb k s) refl k d below;
+}
+  where
+    at_place : (b : Bool) (k : ℕ) (d : SlotNow) → eqb k s ≡ b → k < length (set slots s new)
+        → (get_or (set slots s new) k d).spent ≡ false → (get_or (set slots s new) k d).view.fs ≡ fs
+    at_place true k d same below = grind (arith, nat_tests, its)
+    at_place false k d same below = grind (arith, nat_tests, are.each)

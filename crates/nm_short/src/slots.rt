@@ -7,6 +7,7 @@ ghost use Rattle.nm_slot.specs.Shown.{table_answer};
 ghost use Rattle.nm_slot.specs.SlotNow.{phase_of, handed_over};
 ghost use Rattle.nm_slot.specs.SlotNow.SlotStep.{Entering, Leaving, Applying, Beginning, Freezing, Committing, Abandoning, Accepting, Installing};
 ghost use Rattle.nm_short.specs.Slots.{slot_at, slots_after};
+ghost use Rattle.nm_short.specs.Tables.{no_part};
 
 use nm_rules::{Call, Epoch, FsNum, HeldTable, Memory, MoveNum, ServerNum, Verdict};
 use nm_slot::{
@@ -34,16 +35,200 @@ impl Model for Slots {
     ghost invariant = { λ s. AreOf s.fs s.list.items };
 }
 
-#[tactic(auto, using(crate::proofs::SlotLemmas::slot_within, crate::proofs::SlotLemmas::slot_past, crate::proofs::SlotLemmas::after_within, crate::proofs::SlotLemmas::after_past))]
+// What an offer is answered where there is no slot.
+#[tactic(auto, unfolding(nm_slot::specs::Answers::accept_answer))]
+fn accepted_nowhere(fs: FsNum, number: MoveNum) -> Accept
+    ensures { result ≡ accept_answer (no_part fs) number }
+{
+    if number.number() == 0 {
+        return Accept::Old {
+            known: MoveNum::new(0),
+        };
+    }
+    Accept::Held
+}
+
+// What an install is answered where there is no slot.
+#[tactic(auto, unfolding(nm_slot::specs::Answers::install_answer))]
+fn installed_nowhere(fs: FsNum, number: MoveNum) -> Install
+    ensures { result ≡ install_answer (no_part fs) number }
+{
+    if number.number() == 0 {
+        return Install::Already;
+    }
+    Install::Absent
+}
+
 impl Slots {
     /// Asks the door of a server.
+    #[tactic(auto, using(crate::proofs::SlotLemmas::slot_within, crate::proofs::SlotLemmas::slot_past, crate::proofs::SlotLemmas::after_within, crate::proofs::SlotLemmas::after_past, crate::proofs::SlotLemmas::enter_past, crate::proofs::SlotLemmas::still_of))]
     pub fn enter(&mut self, server: ServerNum) -> Enter
         ensures answer { result ≡ enter_answer (slot_at self.old server) }
         ensures after { self.new ≡ slots_after self.old server (Entering result) }
     {
-        match self.list.get_mut(server.number() as usize) {
-            Some(slot) => slot.enter(),
-            None => Enter::Unknown,
+        let at = server.number() as usize;
+        if at >= self.list.len() {
+            return Enter::Unknown;
+        }
+        self.list[at].enter()
+    }
+
+    /// Gives a pass back.
+    #[tactic(auto, using(crate::proofs::SlotLemmas::slot_within, crate::proofs::SlotLemmas::slot_past, crate::proofs::SlotLemmas::after_within, crate::proofs::SlotLemmas::after_past, crate::proofs::SlotLemmas::still_of))]
+    pub fn leave(&mut self, server: ServerNum, pass: FsPass)
+        ensures { self.new ≡ slots_after self.old server (Leaving pass.epoch) }
+    {
+        let at = server.number() as usize;
+        if at < self.list.len() {
+            self.list[at].leave(pass);
+        }
+    }
+
+    /// Makes a call with a pass. After want of memory nothing is promised of what the servers have.
+    #[tactic(auto, using(crate::proofs::SlotLemmas::slot_within, crate::proofs::SlotLemmas::slot_past, crate::proofs::SlotLemmas::after_within, crate::proofs::SlotLemmas::after_past, crate::proofs::SlotLemmas::apply_past, crate::proofs::SlotLemmas::still_of))]
+    pub fn apply(&mut self, server: ServerNum, pass: &FsPass, call: &Call) -> Result<Answer, Memory>
+        ensures answer { IfOk result (λ a. a ≡ apply_answer (slot_at self.old server) pass.now.epoch call.now Pass) }
+        ensures after { IfOk result (λ a. self.new ≡ slots_after self.old server (Applying pass.now.epoch call.now Pass a)) }
+    {
+        let at = server.number() as usize;
+        if at >= self.list.len() {
+            return Ok(Answer::Strayed {
+                pass_epoch: pass.epoch(),
+                slot_epoch: Epoch::new(0),
+            });
+        }
+        Ok(self.list[at].apply(pass, None, call, Verdict::Pass)?)
+    }
+
+    /// Begins a move from a server to another.
+    #[tactic(auto, using(crate::proofs::SlotLemmas::slot_within, crate::proofs::SlotLemmas::slot_past, crate::proofs::SlotLemmas::after_within, crate::proofs::SlotLemmas::after_past, crate::proofs::SlotLemmas::begin_past, crate::proofs::SlotLemmas::still_of))]
+    pub fn begin(&mut self, server: ServerNum, dest: ServerNum) -> Begin
+        ensures answer { result ≡ begin_answer (slot_at self.old server) server dest }
+        ensures after { self.new ≡ slots_after self.old server (Beginning server dest result) }
+    {
+        let at = server.number() as usize;
+        if at >= self.list.len() {
+            return Begin::NotServed;
+        }
+        self.list[at].begin(server, dest)
+    }
+
+    /// Freezes it for the move under way.
+    #[tactic(auto, using(crate::proofs::SlotLemmas::slot_within, crate::proofs::SlotLemmas::slot_past, crate::proofs::SlotLemmas::after_within, crate::proofs::SlotLemmas::after_past, crate::proofs::SlotLemmas::freeze_past, crate::proofs::SlotLemmas::still_of))]
+    pub fn freeze(&mut self, server: ServerNum) -> Freeze
+        ensures answer { result ≡ freeze_answer (slot_at self.old server) }
+        ensures after { self.new ≡ slots_after self.old server (Freezing result) }
+    {
+        let at = server.number() as usize;
+        if at >= self.list.len() {
+            return Freeze::Idle;
+        }
+        self.list[at].freeze()
+    }
+
+    /// Gives the move up that is under way.
+    #[tactic(auto, using(crate::proofs::SlotLemmas::slot_within, crate::proofs::SlotLemmas::slot_past, crate::proofs::SlotLemmas::after_within, crate::proofs::SlotLemmas::after_past, crate::proofs::SlotLemmas::abandon_past, crate::proofs::SlotLemmas::still_of))]
+    pub fn abandon(&mut self, server: ServerNum) -> Abandon
+        ensures answer { result ≡ abandon_answer (slot_at self.old server) }
+        ensures after { self.new ≡ slots_after self.old server (Abandoning result) }
+    {
+        let at = server.number() as usize;
+        if at >= self.list.len() {
+            return Abandon::Idle;
+        }
+        self.list[at].abandon()
+    }
+
+    /// Hands it over.
+    #[tactic(auto, using(crate::proofs::SlotLemmas::slot_within, crate::proofs::SlotLemmas::slot_past, crate::proofs::SlotLemmas::after_within, crate::proofs::SlotLemmas::after_past, crate::proofs::SlotLemmas::commit_past, crate::proofs::SlotLemmas::still_of))]
+    pub fn commit(&mut self, server: ServerNum, number: MoveNum) -> Result<Commit, Memory>
+        ensures answer { IfOk result (λ a. handed_over a ≡ commit_answer (slot_at self.old server) number) }
+        ensures after { IfOk result (λ a. self.new ≡ slots_after self.old server (Committing number (handed_over a))) }
+    {
+        let at = server.number() as usize;
+        if at >= self.list.len() {
+            return Ok(Commit::Dead {
+                current: MoveNum::new(0),
+            });
+        }
+        if self.list[at].is_spent() {
+            return Err(Memory);
+        }
+        Ok(self.list[at].commit(number))
+    }
+
+    /// Holds an offer.
+    #[tactic(auto, using(crate::proofs::SlotLemmas::slot_within, crate::proofs::SlotLemmas::slot_past, crate::proofs::SlotLemmas::after_within, crate::proofs::SlotLemmas::after_past, crate::proofs::SlotLemmas::still_of))]
+    pub fn accept(&mut self, server: ServerNum, image: &Image) -> Result<Accept, Memory>
+        requires { MayBeOffered self.old.fs image.now }
+        ensures answer { IfOk result (λ a. a ≡ accept_answer (slot_at self.old server) image.now.number) }
+        ensures after { IfOk result (λ a. self.new ≡ slots_after self.old server (Accepting (offer_of image.now) a)) }
+    {
+        let at = server.number() as usize;
+        if at >= self.list.len() {
+            return Ok(accepted_nowhere(self.fs, image.number));
+        }
+        if self.list[at].is_spent() {
+            return Err(Memory);
+        }
+        Ok(self.list[at].accept(image)?)
+    }
+
+    /// Installs an offer that is held.
+    #[tactic(auto, using(crate::proofs::SlotLemmas::slot_within, crate::proofs::SlotLemmas::slot_past, crate::proofs::SlotLemmas::after_within, crate::proofs::SlotLemmas::after_past, crate::proofs::SlotLemmas::still_of))]
+    pub fn install(&mut self, server: ServerNum, number: MoveNum) -> Install
+        ensures answer { result ≡ install_answer (slot_at self.old server) number }
+        ensures after { self.new ≡ slots_after self.old server (Installing number result) }
+    {
+        let at = server.number() as usize;
+        if at >= self.list.len() {
+            return installed_nowhere(self.fs, number);
+        }
+        self.list[at].install(number)
+    }
+
+    /// What a server does with it.
+    #[tactic(auto, using(crate::proofs::SlotLemmas::slot_within, crate::proofs::SlotLemmas::slot_past, crate::proofs::SlotLemmas::after_within, crate::proofs::SlotLemmas::after_past, crate::proofs::SlotLemmas::phase_past))]
+    pub fn phase(&self, server: ServerNum) -> Phase
+        ensures { result ≡ phase_of (slot_at self.now server) }
+    {
+        match self.list.get(server.number() as usize) {
+            Some(slot) => slot.phase(),
+            None => Phase::Never,
+        }
+    }
+
+    /// The greatest move number that a server knows.
+    #[tactic(auto, using(crate::proofs::SlotLemmas::slot_within, crate::proofs::SlotLemmas::slot_past, crate::proofs::SlotLemmas::after_within, crate::proofs::SlotLemmas::after_past))]
+    pub fn known(&self, server: ServerNum) -> MoveNum
+        ensures { result ≡ (slot_at self.now server).own.known }
+    {
+        match self.list.get(server.number() as usize) {
+            Some(slot) => slot.known(),
+            None => MoveNum::new(0),
+        }
+    }
+
+    /// What is on offer at a server.
+    #[tactic(auto, using(crate::proofs::SlotLemmas::slot_within, crate::proofs::SlotLemmas::slot_past, crate::proofs::SlotLemmas::after_within, crate::proofs::SlotLemmas::after_past, crate::proofs::SlotLemmas::image_past))]
+    pub fn image(&self, server: ServerNum) -> Result<Option<Image>, Memory>
+        ensures value { IfOk result (λ image. option_map offer_of image ≡ image_answer (slot_at self.now server)) }
+        ensures fits { IfOk result (λ image. IfSome image (MayBeOffered self.now.fs)) }
+    {
+        match self.list.get(server.number() as usize) {
+            Some(slot) => Ok(slot.image()?),
+            None => Ok(None),
+        }
+    }
+
+    /// What a server shows of it.
+    #[tactic(auto, using(crate::proofs::SlotLemmas::slot_within, crate::proofs::SlotLemmas::slot_past, crate::proofs::SlotLemmas::after_within, crate::proofs::SlotLemmas::after_past, crate::proofs::SlotLemmas::table_past))]
+    pub fn table(&self, server: ServerNum) -> Result<Option<HeldTable>, Memory>
+        ensures { IfOk result (λ table. table ≡ table_answer (slot_at self.now server)) }
+    {
+        match self.list.get(server.number() as usize) {
+            Some(slot) => Ok(slot.table()?),
+            None => Ok(None),
         }
     }
 }
