@@ -1,5 +1,5 @@
 //! The door of a file system at a server: passes, and the calls that are made with them.
-ghost use Rattle.std.specs.Prelude.{◌≡◌, ◌≤◌, ◌<◌, ◌^◌, ◌+◌, true, false, IfOk, OnOk, OnErr, option_map};
+ghost use Rattle.std.specs.Prelude.{◌≡◌, ◌≤◌, ◌<◌, ◌^◌, ◌+◌, true, false, None, IfOk, OnOk, OnErr, option_map};
 ghost use Rattle.std.specs.Vec.{vec_capacity};
 ghost use Rattle.nm_rules.specs.declared.calls.Event.TheVariants.{Asked};
 ghost use Rattle.nm_slot.specs.Answers.{enter_answer, apply_answer, turned_away, let_in};
@@ -11,6 +11,7 @@ ghost use Rattle.nm_slot.specs.declared.answers.Answer.TheVariants.{Done};
 
 use crate::stage::{Doing, Left, Stage};
 use crate::{Answer, Enter, FsPass, Image, Slot};
+use nm_roll::LeasePass;
 use nm_rules::{Call, Event, Instance, Memory, Reply, Verdict};
 
 /// As many passes may be out.
@@ -145,16 +146,24 @@ impl Slot {
         }
     }
 
-    /// Makes a call with a pass. After want of memory the slot is as it was, or its state answers want of memory alone
-    /// from then on.
+    /// Makes a call with a pass. No lease is judged yet. After want of memory the slot is as it was, or its state answers
+    /// want of memory alone from then on.
     #[tactic(auto, using(crate::proofs::StateLemmas::goes_done), unfolding(crate::specs::Answers::apply_answer, crate::specs::Changes::slot_after))]
-    pub fn apply(&mut self, pass: &FsPass, call: &Call, verdict: Verdict) -> Result<Answer, Memory>
+    pub fn apply(
+        &mut self,
+        pass: &FsPass,
+        lease: Option<&LeasePass>,
+        call: &Call,
+        verdict: Verdict,
+    ) -> Result<Answer, Memory>
+        requires unleased { lease ≡ None }
         ensures answer { IfOk result (λ a. a ≡ apply_answer self.old.view pass.now.epoch call.now verdict) }
         ensures after { IfOk result (λ a. self.new.view ≡ slot_after self.old.view (Applying pass.now.epoch call.now verdict a)) }
         ensures spent { OnOk result (self.new.spent ≡ false) }
         ensures unspent { OnOk result (self.old.spent ≡ false) }
         ensures err { OnErr result (IsKeptOrSpent self.old self.new) }
     {
+        let _no_lease = lease;
         if self.stage.is_spent() {
             return Err(Memory);
         }

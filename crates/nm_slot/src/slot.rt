@@ -130,6 +130,13 @@ impl Slot {
         }
     }
 
+    /// The file system.
+    pub fn fs(&self) -> FsNum
+        ensures { result ≡ self.now.view.fs }
+    {
+        self.fs
+    }
+
     /// How many entries the file system had when this server last had its state.
     pub fn count(&self) -> u64
         ensures { result ≡ self.now.view.own.count }
