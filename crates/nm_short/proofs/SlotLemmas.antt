@@ -1,8 +1,10 @@
 -- A step of one of the slots.
-use Rattle.std.proofs.Common.{◌≡◌, ◌<◌, ◌≤◌, ℕ, Bool, true, false, eqb, List, Option, Some, None, map, length, get_or, set, refl, ap, sym, ◌∙◌, arith}
-use Rattle.std.specs.Prelude.{slice_get, slice_set, option_map, unwrap_or}
+use Rattle.std.proofs.Common.{◌≡◌, ◌<◌, ◌≤◌, ℕ, Bool, true, false, eqb, List, Option, Some, None, map, length, get_or, set, refl, ap, sym, ◌∙◌, arith, inl, inr, subst}
+use Rattle.std.specs.Prelude.{◌≢◌, IfSome, slice_get, slice_set, option_map, unwrap_or}
 use Rattle.std.proofs.lemmas.Bool.Decides.{nat_tests}
-use Rattle.std.proofs.lemmas.List.{map-set, set_past, length-map}
+use Rattle.std.proofs.lemmas.List.{map-set, set_past, length-map, length-set, get_or-set_other}
+use Rattle.std.proofs.lemmas.Bool.{false≢true}
+use Rattle.std.proofs.lemmas.Grind.{get_or-set_at}
 use Rattle.std.proofs.lemmas.Option.{slice_get-map, slice_get_read, slice_get_past}
 use Rattle.nm_rules.specs.declared.calls.Call.{Call}
 use Rattle.nm_rules.specs.declared.calls.Verdict.{Verdict}
@@ -14,6 +16,9 @@ use Rattle.nm_slot.specs.declared.answers.Freeze.TheVariants as freeze
 use Rattle.nm_slot.specs.declared.phase.Phase.TheVariants as phase
 use Rattle.nm_slot.specs.Answers.{enter_answer, apply_answer, begin_answer, freeze_answer, image_answer, commit_answer, abandon_answer}
 use Rattle.nm_slot.specs.Changes.{slot_after}
+use Rattle.nm_slot.specs.declared.image.Image.{Image}
+use Rattle.nm_slot.specs.Images.{MayBeOffered}
+use Rattle.nm_slot.specs.Kept.{IsKeptOrSpent}
 use Rattle.nm_slot.specs.Shown.{table_answer}
 use Rattle.nm_slot.specs.SlotNow.{SlotNow, SlotView, SlotStep, phase_of}
 use Rattle.nm_slot.specs.SlotNow.HandedOver.{Dead}
@@ -104,13 +109,46 @@ is_of fs slots s slot below is are unspent =
     ap (λ (it : SlotNow). it.view.fs) is ∙ there (ap (λ (it : SlotNow). it.spent) (sym is) ∙ unspent)
 
 -- a slot in the place of one
-pub still_of : (fs : ℕ) (slots : List SlotNow) (s : ℕ) (new : SlotNow) → AreOf fs slots → (new.spent ≡ false → new.view.fs ≡ fs)
+still_of : (fs : ℕ) (slots : List SlotNow) (s : ℕ) (new : SlotNow) → AreOf fs slots → (new.spent ≡ false → new.view.fs ≡ fs)
     → AreOf fs (set slots s new)
 still_of fs slots s new are its = record {
-  each = λ k d below. at_place (eqb k s) refl k d below;
+  each = λ k d below. at_place (eqb k s) k d refl (rw (length-set slots s new) at below);
 }
   where
-    at_place : (b : Bool) (k : ℕ) (d : SlotNow) → eqb k s ≡ b → k < length (set slots s new)
+    at_place : (b : Bool) (k : ℕ) (d : SlotNow) → eqb k s ≡ b → k < length slots
         → (get_or (set slots s new) k d).spent ≡ false → (get_or (set slots s new) k d).view.fs ≡ fs
-    at_place true k d same below = grind (arith, nat_tests, its)
-    at_place false k d same below = grind (arith, nat_tests, are.each)
+    at_place true k d same below =
+        let place : k ≡ s = grind (arith, nat_tests, same) in
+        let there : get_or (set slots s new) k d ≡ new = get_or-set_at slots s k new d place (omega (arith, place, below)) in
+        rw there its
+    at_place false k d other below =
+        let place : k ≢ s = grind (arith, nat_tests, other) in
+        let there : get_or (set slots s new) k d ≡ get_or slots k d = get_or-set_other slots s k new d place in
+        rw there (are.each k d below)
+
+-- after a step that keeps what was spent
+pub stepped_of : (fs : ℕ) (slots : List SlotNow) (s : ℕ) (slot new : SlotNow) (step : SlotStep) → AreOf fs slots → s < length slots
+    → slot ≡ get_or slots s slot → new.view ≡ slot_after slot.view step → new.spent ≡ slot.spent → AreOf fs (set slots s new)
+unfolding slot_after
+stepped_of fs slots s slot new step are below is after spent = still_of fs slots s new are
+    (λ unspent. ap (λ (v : SlotView). v.fs) after ∙ is_of fs slots s slot below is are (sym spent ∙ unspent))
+
+-- after a step of a slot that wasn't spent
+pub unspent_of : (fs : ℕ) (slots : List SlotNow) (s : ℕ) (slot new : SlotNow) (step : SlotStep) → AreOf fs slots → s < length slots
+    → slot ≡ get_or slots s slot → new.view ≡ slot_after slot.view step → slot.spent ≡ false → AreOf fs (set slots s new)
+unfolding slot_after
+unspent_of fs slots s slot new step are below is after unspent = still_of fs slots s new are
+    (λ _. ap (λ (v : SlotView). v.fs) after ∙ is_of fs slots s slot below is are unspent)
+
+-- after want of memory in a step
+pub spent_of : (fs : ℕ) (slots : List SlotNow) (s : ℕ) (slot new : SlotNow) → AreOf fs slots → s < length slots
+    → slot ≡ get_or slots s slot → IsKeptOrSpent slot new → AreOf fs (set slots s new)
+spent_of fs slots s slot new are below is (inl same) = still_of fs slots s new are
+    (λ unspent. ap (λ (it : SlotNow). it.view.fs) same ∙ is_of fs slots s slot below is are (sym (ap (λ (it : SlotNow). it.spent) same) ∙ unspent))
+spent_of fs slots s slot new are below is (inr spent) = still_of fs slots s new are
+    (λ unspent. absurd (false≢true (sym unspent ∙ spent.spent)))
+
+pub is_here : (fs : ℕ) (slots : List SlotNow) (s : ℕ) (slot : SlotNow) (image : Option Image) → AreOf fs slots → s < length slots
+    → slot ≡ get_or slots s slot → slot.spent ≡ false → IfSome image (MayBeOffered slot.view.fs) → IfSome image (MayBeOffered fs)
+is_here fs slots s slot image are below is unspent offered =
+    subst (λ n. IfSome image (MayBeOffered n)) (is_of fs slots s slot below is are unspent) offered

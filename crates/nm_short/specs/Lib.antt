@@ -1,4 +1,6 @@
+pub mod Files
 pub mod Known
+pub mod Runs
 pub mod ShortRun
 pub mod Slots
 pub mod Tables

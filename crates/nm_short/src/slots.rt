@@ -61,7 +61,7 @@ fn installed_nowhere(fs: FsNum, number: MoveNum) -> Install
 
 impl Slots {
     /// Asks the door of a server.
-    #[tactic(auto, using(crate::proofs::SlotLemmas::slot_within, crate::proofs::SlotLemmas::slot_past, crate::proofs::SlotLemmas::after_within, crate::proofs::SlotLemmas::after_past, crate::proofs::SlotLemmas::enter_past, crate::proofs::SlotLemmas::still_of))]
+    #[tactic(auto, using(crate::proofs::SlotLemmas::slot_within, crate::proofs::SlotLemmas::slot_past, crate::proofs::SlotLemmas::after_within, crate::proofs::SlotLemmas::after_past, crate::proofs::SlotLemmas::enter_past))]
     pub fn enter(&mut self, server: ServerNum) -> Enter
         ensures answer { result ≡ enter_answer (slot_at self.old server) }
         ensures after { self.new ≡ slots_after self.old server (Entering result) }
@@ -74,7 +74,7 @@ impl Slots {
     }
 
     /// Gives a pass back.
-    #[tactic(auto, using(crate::proofs::SlotLemmas::slot_within, crate::proofs::SlotLemmas::slot_past, crate::proofs::SlotLemmas::after_within, crate::proofs::SlotLemmas::after_past, crate::proofs::SlotLemmas::still_of))]
+    #[tactic(auto, using(crate::proofs::SlotLemmas::slot_within, crate::proofs::SlotLemmas::slot_past, crate::proofs::SlotLemmas::after_within, crate::proofs::SlotLemmas::after_past))]
     pub fn leave(&mut self, server: ServerNum, pass: FsPass)
         ensures { self.new ≡ slots_after self.old server (Leaving pass.epoch) }
     {
@@ -85,10 +85,11 @@ impl Slots {
     }
 
     /// Makes a call with a pass. After want of memory nothing is promised of what the servers have.
-    #[tactic(auto, using(crate::proofs::SlotLemmas::slot_within, crate::proofs::SlotLemmas::slot_past, crate::proofs::SlotLemmas::after_within, crate::proofs::SlotLemmas::after_past, crate::proofs::SlotLemmas::apply_past, crate::proofs::SlotLemmas::still_of))]
+    #[tactic(auto, using(crate::proofs::SlotLemmas::slot_within, crate::proofs::SlotLemmas::slot_past, crate::proofs::SlotLemmas::after_within, crate::proofs::SlotLemmas::after_past, crate::proofs::SlotLemmas::apply_past))]
     pub fn apply(&mut self, server: ServerNum, pass: &FsPass, call: &Call) -> Result<Answer, Memory>
         ensures answer { IfOk result (λ a. a ≡ apply_answer (slot_at self.old server) pass.now.epoch call.now Pass) }
         ensures after { IfOk result (λ a. self.new ≡ slots_after self.old server (Applying pass.now.epoch call.now Pass a)) }
+        ensures fs { self.new.fs ≡ self.old.fs }
     {
         let at = server.number() as usize;
         if at >= self.list.len() {
@@ -101,7 +102,7 @@ impl Slots {
     }
 
     /// Begins a move from a server to another.
-    #[tactic(auto, using(crate::proofs::SlotLemmas::slot_within, crate::proofs::SlotLemmas::slot_past, crate::proofs::SlotLemmas::after_within, crate::proofs::SlotLemmas::after_past, crate::proofs::SlotLemmas::begin_past, crate::proofs::SlotLemmas::still_of))]
+    #[tactic(auto, using(crate::proofs::SlotLemmas::slot_within, crate::proofs::SlotLemmas::slot_past, crate::proofs::SlotLemmas::after_within, crate::proofs::SlotLemmas::after_past, crate::proofs::SlotLemmas::begin_past))]
     pub fn begin(&mut self, server: ServerNum, dest: ServerNum) -> Begin
         ensures answer { result ≡ begin_answer (slot_at self.old server) server dest }
         ensures after { self.new ≡ slots_after self.old server (Beginning server dest result) }
@@ -114,7 +115,7 @@ impl Slots {
     }
 
     /// Freezes it for the move under way.
-    #[tactic(auto, using(crate::proofs::SlotLemmas::slot_within, crate::proofs::SlotLemmas::slot_past, crate::proofs::SlotLemmas::after_within, crate::proofs::SlotLemmas::after_past, crate::proofs::SlotLemmas::freeze_past, crate::proofs::SlotLemmas::still_of))]
+    #[tactic(auto, using(crate::proofs::SlotLemmas::slot_within, crate::proofs::SlotLemmas::slot_past, crate::proofs::SlotLemmas::after_within, crate::proofs::SlotLemmas::after_past, crate::proofs::SlotLemmas::freeze_past))]
     pub fn freeze(&mut self, server: ServerNum) -> Freeze
         ensures answer { result ≡ freeze_answer (slot_at self.old server) }
         ensures after { self.new ≡ slots_after self.old server (Freezing result) }
@@ -127,7 +128,7 @@ impl Slots {
     }
 
     /// Gives the move up that is under way.
-    #[tactic(auto, using(crate::proofs::SlotLemmas::slot_within, crate::proofs::SlotLemmas::slot_past, crate::proofs::SlotLemmas::after_within, crate::proofs::SlotLemmas::after_past, crate::proofs::SlotLemmas::abandon_past, crate::proofs::SlotLemmas::still_of))]
+    #[tactic(auto, using(crate::proofs::SlotLemmas::slot_within, crate::proofs::SlotLemmas::slot_past, crate::proofs::SlotLemmas::after_within, crate::proofs::SlotLemmas::after_past, crate::proofs::SlotLemmas::abandon_past))]
     pub fn abandon(&mut self, server: ServerNum) -> Abandon
         ensures answer { result ≡ abandon_answer (slot_at self.old server) }
         ensures after { self.new ≡ slots_after self.old server (Abandoning result) }
@@ -140,10 +141,11 @@ impl Slots {
     }
 
     /// Hands it over.
-    #[tactic(auto, using(crate::proofs::SlotLemmas::slot_within, crate::proofs::SlotLemmas::slot_past, crate::proofs::SlotLemmas::after_within, crate::proofs::SlotLemmas::after_past, crate::proofs::SlotLemmas::commit_past, crate::proofs::SlotLemmas::still_of))]
+    #[tactic(auto, using(crate::proofs::SlotLemmas::slot_within, crate::proofs::SlotLemmas::slot_past, crate::proofs::SlotLemmas::after_within, crate::proofs::SlotLemmas::after_past, crate::proofs::SlotLemmas::commit_past))]
     pub fn commit(&mut self, server: ServerNum, number: MoveNum) -> Result<Commit, Memory>
         ensures answer { IfOk result (λ a. handed_over a ≡ commit_answer (slot_at self.old server) number) }
         ensures after { IfOk result (λ a. self.new ≡ slots_after self.old server (Committing number (handed_over a))) }
+        ensures fs { self.new.fs ≡ self.old.fs }
     {
         let at = server.number() as usize;
         if at >= self.list.len() {
@@ -151,31 +153,34 @@ impl Slots {
                 current: MoveNum::new(0),
             });
         }
-        if self.list[at].is_spent() {
+        let slot = &mut self.list[at];
+        if slot.is_spent() {
             return Err(Memory);
         }
-        Ok(self.list[at].commit(number))
+        Ok(slot.commit(number))
     }
 
     /// Holds an offer.
-    #[tactic(auto, using(crate::proofs::SlotLemmas::slot_within, crate::proofs::SlotLemmas::slot_past, crate::proofs::SlotLemmas::after_within, crate::proofs::SlotLemmas::after_past, crate::proofs::SlotLemmas::still_of))]
+    #[tactic(auto, using(crate::proofs::SlotLemmas::slot_within, crate::proofs::SlotLemmas::slot_past, crate::proofs::SlotLemmas::after_within, crate::proofs::SlotLemmas::after_past))]
     pub fn accept(&mut self, server: ServerNum, image: &Image) -> Result<Accept, Memory>
         requires { MayBeOffered self.old.fs image.now }
         ensures answer { IfOk result (λ a. a ≡ accept_answer (slot_at self.old server) image.now.number) }
         ensures after { IfOk result (λ a. self.new ≡ slots_after self.old server (Accepting (offer_of image.now) a)) }
+        ensures fs { self.new.fs ≡ self.old.fs }
     {
         let at = server.number() as usize;
         if at >= self.list.len() {
             return Ok(accepted_nowhere(self.fs, image.number));
         }
-        if self.list[at].is_spent() {
+        let slot = &mut self.list[at];
+        if slot.is_spent() {
             return Err(Memory);
         }
-        Ok(self.list[at].accept(image)?)
+        Ok(slot.accept(image)?)
     }
 
     /// Installs an offer that is held.
-    #[tactic(auto, using(crate::proofs::SlotLemmas::slot_within, crate::proofs::SlotLemmas::slot_past, crate::proofs::SlotLemmas::after_within, crate::proofs::SlotLemmas::after_past, crate::proofs::SlotLemmas::still_of))]
+    #[tactic(auto, using(crate::proofs::SlotLemmas::slot_within, crate::proofs::SlotLemmas::slot_past, crate::proofs::SlotLemmas::after_within, crate::proofs::SlotLemmas::after_past))]
     pub fn install(&mut self, server: ServerNum, number: MoveNum) -> Install
         ensures answer { result ≡ install_answer (slot_at self.old server) number }
         ensures after { self.new ≡ slots_after self.old server (Installing number result) }
@@ -215,10 +220,15 @@ impl Slots {
         ensures value { IfOk result (λ image. option_map offer_of image ≡ image_answer (slot_at self.now server)) }
         ensures fits { IfOk result (λ image. IfSome image (MayBeOffered self.now.fs)) }
     {
-        match self.list.get(server.number() as usize) {
-            Some(slot) => Ok(slot.image()?),
-            None => Ok(None),
+        let at = server.number() as usize;
+        if at >= self.list.len() {
+            return Ok(None);
         }
+        let slot = &self.list[at];
+        if slot.is_spent() {
+            return Err(Memory);
+        }
+        Ok(slot.image()?)
     }
 
     /// What a server shows of it.
@@ -230,5 +240,12 @@ impl Slots {
             Some(slot) => Ok(slot.table()?),
             None => Ok(None),
         }
+    }
+
+    /// The file system.
+    pub fn fs(&self) -> FsNum
+        ensures { result ≡ self.now.fs }
+    {
+        self.fs
     }
 }
