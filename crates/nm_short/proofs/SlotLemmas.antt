@@ -1,8 +1,8 @@
 -- A step of one of the slots.
-use Rattle.std.proofs.Common.{◌≡◌, ◌<◌, ◌≤◌, ℕ, Bool, true, false, eqb, List, Option, Some, None, map, length, get_or, set, refl, ap, sym, ◌∙◌, arith, inl, inr, subst}
+use Rattle.std.proofs.Common.{◌≡◌, ◌<◌, ◌≤◌, ◌+◌, ◌++◌, [], ◌∷◌, replicate, ℕ, Bool, true, false, eqb, List, Option, Some, None, map, length, get_or, set, refl, ap, sym, ◌∙◌, arith, inl, inr, subst}
 use Rattle.std.specs.Prelude.{◌≢◌, IfSome, slice_get, slice_set, option_map, unwrap_or}
 use Rattle.std.proofs.lemmas.Bool.Decides.{nat_tests}
-use Rattle.std.proofs.lemmas.List.{map-set, set_past, length-map, length-set, get_or-set_other}
+use Rattle.std.proofs.lemmas.List.{map-set, map_push, set_past, length-map, length-set, length-replicate, replicate_more, get_or-map, get_or-replicate, get_or-set_other}
 use Rattle.std.proofs.lemmas.Bool.{false≢true}
 use Rattle.std.proofs.lemmas.Grind.{get_or-set_at}
 use Rattle.std.proofs.lemmas.Option.{slice_get-map, slice_get_read, slice_get_past}
@@ -22,7 +22,7 @@ use Rattle.nm_slot.specs.Kept.{IsKeptOrSpent}
 use Rattle.nm_slot.specs.Shown.{table_answer}
 use Rattle.nm_slot.specs.SlotNow.{SlotNow, SlotView, SlotStep, phase_of}
 use Rattle.nm_slot.specs.SlotNow.HandedOver.{Dead}
-use Rattle.nm_short.specs.Tables.{no_part}
+use Rattle.nm_short.specs.Tables.{no_part, first_slot, first_slots}
 use Rattle.nm_short.specs.Slots.{SlotsNow, view_of, slot_at, slots_after, AreOf}
 
 pub slot_within : (fs : ℕ) (slots : List SlotNow) (s : ℕ) (slot : SlotNow) → s < length slots → slot ≡ get_or slots s slot
@@ -152,3 +152,35 @@ pub is_here : (fs : ℕ) (slots : List SlotNow) (s : ℕ) (slot : SlotNow) (imag
     → slot ≡ get_or slots s slot → slot.spent ≡ false → IfSome image (MayBeOffered slot.view.fs) → IfSome image (MayBeOffered fs)
 is_here fs slots s slot image are below is unspent offered =
     subst (λ n. IfSome image (MayBeOffered n)) (is_of fs slots s slot below is are unspent) offered
+
+-- one more slot without a part
+pub one_more : (fs n : ℕ) (slots : List SlotNow) (new : SlotNow) → map view_of slots ≡ replicate n (no_part fs) → new.view ≡ no_part fs
+    → map view_of (slots ++ new ∷ []) ≡ replicate (n + 1) (no_part fs)
+one_more fs n slots new so_far is =
+    map_push view_of slots new ∙ ap (λ rows. rows ++ new.view ∷ []) so_far ∙ ap (λ (v : SlotView). replicate n (no_part fs) ++ v ∷ []) is
+    ∙ replicate_more n (no_part fs)
+
+-- slots without a part are of their file system
+pub no_parts_of : (fs n : ℕ) (slots : List SlotNow) → map view_of slots ≡ replicate n (no_part fs) → AreOf fs slots
+no_parts_of fs n slots is = record {
+  each = λ k d below unspent.
+    let many : length slots ≡ n = sym (length-map slots view_of) ∙ ap length is ∙ length-replicate n (no_part fs) in
+    let view : (get_or slots k d).view ≡ no_part fs =
+        sym (get_or-map view_of slots k d (no_part fs) below) ∙ ap (λ rows. get_or rows k (no_part fs)) is ∙ get_or-replicate n k (no_part fs) (no_part fs) (omega (arith, below, many))
+    in ap (λ (v : SlotView). v.fs) view;
+}
+
+pub first_of : (fs n s : ℕ) (slots : List SlotNow) (new : SlotNow) → map view_of slots ≡ replicate n (no_part fs) → new.view ≡ first_slot fs
+    → AreOf fs (set slots s new)
+first_of fs n s slots new is first = still_of fs slots s new (no_parts_of fs n slots is) (λ _. ap (λ (v : SlotView). v.fs) first)
+
+pub first_is : (fs n s : ℕ) (slots : List SlotNow) (new : SlotNow) → map view_of slots ≡ replicate n (no_part fs) → new.view ≡ first_slot fs
+    → map view_of (set slots s new) ≡ first_slots n fs s
+first_is fs n s slots new is first =
+    map-set view_of slots s new ∙ ap (λ rows. set rows s new.view) is ∙ ap (set (replicate n (no_part fs)) s) first
+
+pub none_is : (fs n s : ℕ) (slots : List SlotNow) → map view_of slots ≡ replicate n (no_part fs) → length slots ≤ s
+    → map view_of slots ≡ first_slots n fs s
+none_is fs n s slots is past =
+    let many : length (replicate n (no_part fs)) ≤ s = rw (← is, length-map slots view_of) past in
+    is ∙ sym (set_past (replicate n (no_part fs)) s (first_slot fs) many)

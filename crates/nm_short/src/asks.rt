@@ -78,7 +78,7 @@ impl FileSlots {
         ensures { knocked_to result self.new ≡ knocks_to requests_limit self.old from }
     {
         let mut server = from;
-        for _ in 0..REQUESTS_LIMIT {
+        for _count in 0..REQUESTS_LIMIT {
             let answer = self.enter(server);
             match sent_on(&answer) {
                 Some(dest) => server = dest,
@@ -126,13 +126,14 @@ impl FileSlots {
     ) -> Result<Told, Memory>
         ensures { IfOk result (λ told. tried_to told self.new clients.new ≡ door_to self.old knocked.server knocked.door client action.now call.now clients.old) }
     {
-        let Some(answer) = knocked.door else {
+        let Knocked { server, door } = knocked;
+        let Some(answer) = door else {
             clients.take_up(client, action)?;
             return Ok(Told::Stopped);
         };
         match answer {
             Enter::Entered(pass) => {
-                Ok(self.call(clients, knocked.server, pass, client, action, call)?)
+                Ok(self.call(clients, server, pass, client, action, call)?)
             }
             Enter::Delay => {
                 clients.take_up(client, action)?;

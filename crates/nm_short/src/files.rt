@@ -104,6 +104,13 @@ impl FileSlots {
         self.slots.fs()
     }
 
+    /// The server that has it, or handed it over.
+    pub fn source(&self) -> ServerNum
+        ensures { result ≡ self.now.at }
+    {
+        self.at
+    }
+
     /// What a server does with it.
     #[tactic(auto, unfolding(crate::specs::Slots::slot_at, crate::specs::Tables::slot_in))]
     pub fn phase_at(&self, server: ServerNum) -> Phase
@@ -148,7 +155,7 @@ impl FileSlots {
     pub fn shown_table(&self) -> Result<HeldTable, Memory>
         ensures { IfOk result (λ table. table ≡ shown_table self.now) }
     {
-        let server = self.shower(self.phase_at(self.at));
+        let server = self.shower(self.phase_at(self.source()));
         match self.table_at(server)? {
             Some(table) => Ok(table),
             None => Ok(Items::new(self.alloc)),

@@ -1,18 +1,20 @@
 //! What each server has of a file system.
-ghost use Rattle.std.specs.Prelude.{◌≡◌, [], IfOk, OnOk, IfSome, option_map};
+ghost use Rattle.std.specs.Prelude.{◌≡◌, false, map, replicate, IfOk, IfSome, option_map};
 ghost use Rattle.nm_rules.specs.declared.calls.Verdict.TheVariants.{Pass};
 ghost use Rattle.nm_slot.specs.Answers.{enter_answer, apply_answer, begin_answer, freeze_answer, image_answer, commit_answer, abandon_answer, accept_answer, install_answer};
 ghost use Rattle.nm_slot.specs.Images.{offer_of, MayBeOffered};
 ghost use Rattle.nm_slot.specs.Shown.{table_answer};
 ghost use Rattle.nm_slot.specs.SlotNow.{phase_of, handed_over};
 ghost use Rattle.nm_slot.specs.SlotNow.SlotStep.{Entering, Leaving, Applying, Beginning, Freezing, Committing, Abandoning, Accepting, Installing};
-ghost use Rattle.nm_short.specs.Slots.{slot_at, slots_after};
-ghost use Rattle.nm_short.specs.Tables.{no_part};
+ghost use Rattle.nm_short.specs.Slots.{view_of, slot_at, slots_after};
+ghost use Rattle.nm_short.specs.Tables.{no_part, first_slot, first_slots};
 
 use nm_rules::{Call, Epoch, FsNum, HeldTable, Memory, MoveNum, ServerNum, Verdict};
 use nm_slot::{
     Abandon, Accept, Answer, Begin, Commit, Enter, Freeze, FsPass, Image, Install, Phase, Slot,
 };
+use nm_state::FsState;
+use std::alloc::Global;
 use std::marker::Model;
 
 /// A file system's slot at each server. A server without one had no part in it, and what is asked of it changes nothing.
@@ -33,6 +35,25 @@ impl Model for Slots {
     ghost view = { λ s. record { fs = s.fs; views = map view_of s.list.items } };
 
     ghost invariant = { λ s. AreOf s.fs s.list.items };
+}
+
+// The slots of so many servers that had no part in it.
+fn no_parts(alloc: Global, fs: FsNum, servers: usize) -> Result<Vec<Slot>, Memory>
+    ensures { IfOk result (λ list. map view_of list.items ≡ replicate servers (no_part fs)) }
+{
+    let mut list = Vec::new(alloc);
+    for _count in 0..servers {
+        list.push(Slot::new(alloc, fs, None)?)?;
+    }
+    Ok(list)
+}
+
+// The slot of a server that serves it, before the first call.
+fn serving(alloc: Global, fs: FsNum) -> Result<Slot, Memory>
+    ensures { IfOk result (λ slot. slot ≡ record { view = first_slot fs; spent = false }) }
+{
+    let state = FsState::new(alloc, fs, false)?;
+    Ok(Slot::new(alloc, fs, Some(state))?)
 }
 
 // What an offer is answered where there is no slot.
@@ -60,6 +81,19 @@ fn installed_nowhere(fs: FsNum, number: MoveNum) -> Install
 }
 
 impl Slots {
+    /// The slots of so many servers, of which one serves it.
+    pub fn new(alloc: Global, fs: FsNum, servers: usize, at: ServerNum) -> Result<Slots, Memory>
+        ensures { IfOk result (λ slots. slots ≡ record { fs = fs; views = first_slots servers fs at }) }
+    {
+        let mut list = no_parts(alloc, fs, servers)?;
+        let place = at.number() as usize;
+        if place >= list.len() {
+            return Ok(Slots { fs, list });
+        }
+        list[place] = serving(alloc, fs)?;
+        Ok(Slots { fs, list })
+    }
+
     /// Asks the door of a server.
     #[tactic(auto, using(crate::proofs::SlotLemmas::slot_within, crate::proofs::SlotLemmas::slot_past, crate::proofs::SlotLemmas::after_within, crate::proofs::SlotLemmas::after_past, crate::proofs::SlotLemmas::enter_past))]
     pub fn enter(&mut self, server: ServerNum) -> Enter
