@@ -8,5 +8,6 @@ pub mod Laws
 pub mod Moves
 pub mod Passes
 pub mod Phases
+pub mod Runs
 pub mod Shown
 pub mod SlotNow

@@ -1,20 +1,34 @@
 //! Laws of every history of a file system: its servers' steps in any order, where what was sent may come late, more than
 //! once, or never. Each is the contract of a function that does nothing.
-ghost use Rattle.std.specs.Prelude.{◌≡◌, ◌≢◌, ◌↔◌, ℕ, List, ◌∷◌};
+ghost use Rattle.std.specs.Prelude.{◌≡◌, ◌≢◌, ◌↔◌, ℕ, true, false, List, ◌∷◌};
 ghost use Rattle.nm_rules.specs.Answer.{IsLegal};
+ghost use Rattle.nm_rules.specs.Holders.{holders};
+ghost use Rattle.nm_slot.specs.Answers.{is_at_end};
 ghost use Rattle.nm_slot.specs.SlotNow.{phase_of, SlotStep};
-ghost use Rattle.nm_slot.specs.SlotNow.SlotStep.{Entering, Installing};
+ghost use Rattle.nm_slot.specs.SlotNow.HandedOver.{Committed};
+ghost use Rattle.nm_slot.specs.SlotNow.SlotStep.{Entering, Committing, Installing};
 ghost use Rattle.nm_slot.specs.Changes.{slot_after};
 ghost use Rattle.nm_slot.specs.Door.{door_answer};
-ghost use Rattle.nm_slot.specs.History.{Home, IsHistory, slot_now, own_now, entries_now};
-ghost use Rattle.nm_slot.specs.Laws.{IsWhole, NeverComes};
+ghost use Rattle.nm_slot.specs.History.{Home, IsHistory, slot_now, own_now, entries_now, tables_now};
+ghost use Rattle.nm_slot.specs.Laws.{IsWhole, MayMoveTo, NeverComes};
+ghost use Rattle.nm_slot.specs.Moves.{move_now};
 ghost use Rattle.nm_slot.specs.Phases.{Moment, phase_now};
-ghost use Rattle.nm_slot.specs.Phases.Phase.{At};
+ghost use Rattle.nm_slot.specs.Phases.Phase.{At, Frozen, Passing};
+ghost use Rattle.nm_slot.specs.Runs.{slot_run, IsRun};
 ghost use Rattle.nm_slot.specs.declared.answers.Enter.{Enter as AnyEnter};
 ghost use Rattle.nm_slot.specs.declared.answers.Install.TheVariants.{Now};
 ghost use Rattle.nm_slot.specs.declared.phase.Phase.TheVariants.{Serving};
 
-/// One holder: what each call leaves of its server's slot is that server's column of the one phase, and no other slot
+/// One holder: however its servers' steps come, at most one slot serves a file system. Here each slot is what its own
+/// steps left, and answers by that alone; it is then its column of the one phase, so that runs are the histories below.
+pub fn one_holder()
+    ensures at_most_one { (home : Home) (h : List Moment) → IsRun home h → (s r : ℕ)
+        → phase_of (slot_run home h s) ≡ Serving → phase_of (slot_run home h r) ≡ Serving → s ≡ r }
+    ensures columns { (home : Home) (h : List Moment) → IsRun home h → (s : ℕ) → slot_run home h s ≡ slot_now home h s }
+    ensures histories { (home : Home) (h : List Moment) → IsRun home h ↔ IsHistory home h }
+{}
+
+/// One holder, a step at a time: what each call leaves of its server's slot is that server's column of the one phase, and no other slot
 /// changes. So where each slot begins as its column, it is its column at each moment.
 pub fn slots_follow_the_phase()
     ensures own { (home : Home) (h : List Moment) (x : Moment) → IsHistory home (x ∷ h)
@@ -49,4 +63,18 @@ pub fn the_door_is_accounted_for()
 /// The answers that never come.
 pub fn some_answers_never_come()
     ensures { (home : Home) (h : List Moment) (x : Moment) → IsHistory home (x ∷ h) → NeverComes x.step }
+{}
+
+/// A move gets on: a frozen source to which word came that its offer is held hands over, what was handed over can be
+/// installed, and from a server that serves, unless a number is at its end, a file system can get to any other.
+pub fn a_move_gets_on()
+    ensures hands_over { (home : Home) (h : List Moment) (source dest number : ℕ) → IsHistory home h
+        → phase_now home.first h ≡ Frozen source dest number → (move_now h number).prepared ≡ true
+        → IsHistory home (record { server = source; step = Committing number (Committed (holders (tables_now home h))) } ∷ h) }
+    ensures installs { (home : Home) (h : List Moment) (source dest number : ℕ) → IsHistory home h
+        → phase_now home.first h ≡ Passing source dest number
+        → IsHistory home (record { server = dest; step = Installing number Now } ∷ h) }
+    ensures gets_there { (home : Home) (h : List Moment) (source dest : ℕ) → IsHistory home h
+        → phase_now home.first h ≡ At source → source ≢ dest
+        → is_at_end (own_now home.first h source) ≡ false → MayMoveTo home h dest }
 {}

@@ -1,0 +1,5 @@
+use Rattle.nm_slot.proofs.HistoryLaws.{is_whole}
+use Rattle.nm_slot.proofs.laws.nothing_is_lost.Goals as goal
+
+pub returns : goal.returns
+returns c home h dest number it = is_whole home h dest number it
