@@ -2,6 +2,7 @@ pub mod AnswersSay
 pub mod BeganKept
 pub mod ClientLaws
 pub mod DeliveryLaws
+pub mod FileFirst
 pub mod FileLemmas
 pub mod FirstLaws
 pub mod FreezeLaws

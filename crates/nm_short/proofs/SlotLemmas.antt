@@ -174,10 +174,15 @@ pub first_of : (fs n s : ℕ) (slots : List SlotNow) (new : SlotNow) → map vie
     → AreOf fs (set slots s new)
 first_of fs n s slots new is first = still_of fs slots s new (no_parts_of fs n slots is) (λ _. ap (λ (v : SlotView). v.fs) first)
 
-pub first_is : (fs n s : ℕ) (slots : List SlotNow) (new : SlotNow) → map view_of slots ≡ replicate n (no_part fs) → new.view ≡ first_slot fs
+first_is : (fs n s : ℕ) (slots : List SlotNow) (new : SlotNow) → map view_of slots ≡ replicate n (no_part fs) → new.view ≡ first_slot fs
     → map view_of (set slots s new) ≡ first_slots n fs s
 first_is fs n s slots new is first =
     map-set view_of slots s new ∙ ap (λ rows. set rows s new.view) is ∙ ap (set (replicate n (no_part fs)) s) first
+
+pub slots_first : (fs n at s : ℕ) (slots : List SlotNow) (new : SlotNow) → s ≡ at → map view_of slots ≡ replicate n (no_part fs) → new.view ≡ first_slot fs
+    → ◌≡◌ {A = SlotsNow} (record { fs = fs; views = map view_of (set slots s new) }) (record { fs = fs; views = first_slots n fs at })
+slots_first fs n at s slots new here is first =
+    ap (λ (views : List SlotView). record { fs = fs; views = views }) (first_is fs n s slots new is first ∙ ap (first_slots n fs) here)
 
 pub none_is : (fs n s : ℕ) (slots : List SlotNow) → map view_of slots ≡ replicate n (no_part fs) → length slots ≤ s
     → map view_of slots ≡ first_slots n fs s

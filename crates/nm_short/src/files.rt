@@ -1,5 +1,5 @@
 //! A file system: what each server has of it, and what its servers sent one another.
-ghost use Rattle.std.specs.Prelude.{◌≡◌, [], IfOk, OnOk, option_map};
+ghost use Rattle.std.specs.Prelude.{◌≡◌, None, IfOk, OnOk, option_map};
 ghost use Rattle.nm_rules.specs.declared.calls.Verdict.TheVariants.{Pass};
 ghost use Rattle.nm_slot.specs.Answers.{enter_answer, apply_answer, begin_answer, freeze_answer, commit_answer, abandon_answer, accept_answer, install_answer};
 ghost use Rattle.nm_slot.specs.Shown.{table_answer};
@@ -8,7 +8,7 @@ ghost use Rattle.nm_slot.specs.SlotNow.SlotStep.{Entering, Leaving, Applying, Be
 ghost use Rattle.nm_short.specs.Files.{handed_of, sent_answer, delivered, installed_in};
 ghost use Rattle.nm_short.specs.ShortRun.{phase_shown};
 ghost use Rattle.nm_short.specs.Slots.{slot_at, slots_after};
-ghost use Rattle.nm_short.specs.Tables.{slot_in, stepped, phase_in, offers_in, hands, had_by, shower, shown_table};
+ghost use Rattle.nm_short.specs.Tables.{first_slots, slot_in, stepped, phase_in, offers_in, hands, had_by, shower, shown_table};
 
 use crate::names::show_phase;
 use crate::slots::Slots;
@@ -97,6 +97,20 @@ fn hand_over(
 }
 
 impl FileSlots {
+    /// A file system that is served at one of so many servers, before the first call.
+    pub fn new(alloc: Global, fs: FsNum, servers: usize, at: ServerNum) -> Result<FileSlots, Memory>
+        ensures { IfOk result (λ f. f ≡ record { fs = fs; first = at; slots = first_slots servers fs at; at = at; offer = None; handed = None }) }
+    {
+        Ok(FileSlots {
+            alloc,
+            first: at,
+            slots: Slots::new(alloc, fs, servers, at)?,
+            at,
+            offer: None,
+            handed: None,
+        })
+    }
+
     /// The file system's number.
     pub fn fs(&self) -> FsNum
         ensures { result ≡ self.now.fs }

@@ -10,4 +10,4 @@ mod orders;
 mod run;
 mod slots;
 
-pub use run::Run;
+pub use run::{Run, text_of_run};

@@ -1,17 +1,21 @@
 //! The run of a script's lines.
-ghost use Rattle.std.specs.Prelude.{◌≡◌, ◌∷◌, ◌≤◌, [], length, IfOk, slice_get};
+ghost use Rattle.std.specs.Prelude.{◌≡◌, ◌∷◌, ◌<◌, ◌≤◌, [], length, IfOk, slice_get};
 ghost use Rattle.nm_rules.specs.Actions.{fs_of};
+ghost use Rattle.nm_script.specs.Grammar.{IsWellFormed};
+ghost use Rattle.nm_script.specs.Text.{text_of};
 ghost use Rattle.nm_short.specs.Files.{order_of};
 ghost use Rattle.nm_short.specs.Known.{call_of};
 ghost use Rattle.nm_short.specs.Runs.{step_to, phase_shown_at};
-ghost use Rattle.nm_short.specs.ShortRun.{outcome};
-ghost use Rattle.nm_short.specs.Tables.{AreShort, told_call, told_act, told_start, told_go_on, told_do, told_finish, told_ordered, told_line, tables_of_head};
+ghost use Rattle.nm_short.specs.ShortRun.{outcome, short_run};
+ghost use Rattle.nm_short.specs.Tables.{AreShort, told_call, told_act, told_start, told_go_on, told_do, told_finish, told_ordered, told_line, text_from, tables_at_first, tables_of_head};
 
 use crate::clients::Clients;
 use crate::files::FileSlots;
 use crate::orders::{Order, single};
 use nm_rules::{Action, Call, FsNum, Items, Memory, ServerNum};
-use nm_script::{ClientRow, Head, IdleRow, Line, OutcomeRow, Report, ReportRow, Told};
+use nm_script::{
+    ClientRow, Head, IdleRow, Line, OutcomeRow, Report, ReportRow, Script, Told, append_line_text,
+};
 use nm_slot::Phase;
 use std::alloc::Global;
 use std::marker::Model;
@@ -41,7 +45,46 @@ fn outcome_of(alloc: Global, row: &ClientRow, action: &Action, told: Told) -> Re
     single(alloc, ReportRow::Outcome(OutcomeRow { client, verb, told }))
 }
 
+// A file system's number.
+fn file_number(n: u32) -> FsNum
+    requires { n < 64 }
+    ensures { result ≡ n }
+{
+    match FsNum::new(n) {
+        Some(fs) => fs,
+        None => unreachable!(),
+    }
+}
+
+// The file systems of a head, before the first line.
+fn first_files(alloc: Global, head: &Head) -> Result<Vec<FileSlots>, Memory>
+    requires { length head.now.file_systems ≤ 64 }
+    ensures { IfOk result (λ files. files.items ≡ tables_at_first (length head.now.servers) 0 head.now.file_systems) }
+{
+    let servers = head.servers.items().len();
+    let mut files = Vec::new(alloc);
+    let mut number = 0;
+    for row in head.file_systems.items() {
+        let file = FileSlots::new(alloc, file_number(number), servers, row.at)?;
+        files.push(file)?;
+        number += 1;
+    }
+    Ok(files)
+}
+
 impl Run {
+    /// Before the first line each file system is served where the head has it, and no client knows anything.
+    pub fn new(alloc: Global, head: &Head) -> Result<Run, Memory>
+        requires { length head.now.file_systems ≤ 64 }
+        ensures { IfOk result (λ run. run ≡ tables_of_head head.now) }
+    {
+        Ok(Run {
+            alloc,
+            files: first_files(alloc, head)?,
+            clients: Clients::new(alloc),
+        })
+    }
+
     /// What a server does with a file system; `None` exactly where the script has no file system of that number.
     pub fn phase_at(&self, fs: FsNum, server: ServerNum) -> Option<Phase>
         ensures { result ≡ phase_shown_at (slice_get self.now.files fs) server }
@@ -185,4 +228,27 @@ impl Run {
             Line::Show(fs) => Ok(self.order_line(head, *fs, Order::Show)?),
         }
     }
+}
+
+// The text of a script's lines, over what the servers have.
+fn text_of_lines(alloc: Global, script: &Script) -> Result<Vec<u8>, Memory>
+    requires short { AreShort script.now.head.clients }
+    requires few { length script.now.head.file_systems ≤ 64 }
+    ensures { IfOk result (λ text. text.items ≡ text_from script.now.head (tables_of_head script.now.head) script.now.lines) }
+{
+    let mut run = Run::new(alloc, &script.head)?;
+    let mut text = Vec::new(alloc);
+    for line in script.lines.items() {
+        let report = run.line(&script.head, line)?;
+        append_line_text(&mut text, &report)?;
+    }
+    Ok(text)
+}
+
+/// Runs a script's lines in order: the text that they print. `Memory` where an allocation failed.
+pub fn text_of_run(alloc: Global, script: &Script) -> Result<Vec<u8>, Memory>
+    requires { IsWellFormed script.now }
+    ensures { IfOk result (λ text. text.items ≡ text_of (short_run script.now)) }
+{
+    Ok(text_of_lines(alloc, script)?)
 }
