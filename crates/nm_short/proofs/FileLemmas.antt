@@ -15,8 +15,7 @@ use Rattle.nm_slot.specs.SlotNow.{Offer, Own, Stage, SlotView, phase_of}
 use Rattle.nm_slot.specs.SlotNow.Stage.{Away, Here}
 use Rattle.nm_slot.specs.SlotNow.SlotStep.{Accepting, Entering}
 use Rattle.nm_short.specs.Files.{accepted_in, sent_answer, delivered, accept_told, sent_on}
-use Rattle.nm_short.specs.Slots.{SlotsNow, slot_at}
-use Rattle.nm_short.specs.Tables.{FileTables, SentTo, WentTo, KnockedTo, knocks_to, slot_in, stepped, accept_to, delivers_to, stage_table, table_of, shown_table, shower}
+use Rattle.nm_short.specs.Tables.{FileTables, SentTo, KnockedTo, knocks_to, slot_in, stepped, accept_to, delivers_to, stage_table, shown_table, shower}
 
 pub table_same : (stage : Stage) (own : Own) (held : Option Offer) → own.held ≡ held → stage_table stage held ≡ table_at stage own
 table_same (Here doing state) own held is = refl

@@ -1,6 +1,6 @@
 -- A step of one of the slots.
 use Rattle.std.proofs.Common.{◌≡◌, ◌<◌, ◌≤◌, ◌+◌, ◌++◌, [], ◌∷◌, replicate, ℕ, Bool, true, false, eqb, List, Option, Some, None, map, length, get_or, set, refl, ap, sym, ◌∙◌, arith, inl, inr, subst}
-use Rattle.std.specs.Prelude.{◌≢◌, IfSome, slice_get, slice_set, option_map, unwrap_or}
+use Rattle.std.specs.Prelude.{◌≢◌, IfSome, slice_get, slice_set, option_map}
 use Rattle.std.proofs.lemmas.Bool.Decides.{nat_tests}
 use Rattle.std.proofs.lemmas.List.{map-set, map_push, set_past, length-map, length-set, length-replicate, replicate_more, get_or-map, get_or-replicate, get_or-set_other}
 use Rattle.std.proofs.lemmas.Bool.{false≢true}
@@ -30,7 +30,7 @@ pub slot_within : (fs : ℕ) (slots : List SlotNow) (s : ℕ) (slot : SlotNow) �
 unfolding slot_at
 slot_within fs slots s slot below is =
     let found : slice_get (map view_of slots) s ≡ Some slot.view =
-        slice_get-map view_of slots s ∙ ap (option_map view_of) (slice_get_read slots (length slots) s slot refl below is)
+    slice_get-map view_of slots s ∙ ap (option_map view_of) (slice_get_read slots (length slots) s slot refl below is)
     in rw found refl
 
 pub slot_past : (fs : ℕ) (slots : List SlotNow) (s : ℕ) → length slots ≤ s
@@ -38,7 +38,7 @@ pub slot_past : (fs : ℕ) (slots : List SlotNow) (s : ℕ) → length slots ≤
 unfolding slot_at
 slot_past fs slots s past =
     let none : slice_get (map view_of slots) s ≡ None =
-        slice_get-map view_of slots s ∙ ap (option_map view_of) (slice_get_past slots s past)
+    slice_get-map view_of slots s ∙ ap (option_map view_of) (slice_get_past slots s past)
     in rw none refl
 
 pub enter_past : (fs : ℕ) (slots : List SlotNow) (s : ℕ) → length slots ≤ s
@@ -99,7 +99,7 @@ pub after_past : (fs : ℕ) (slots : List SlotNow) (s : ℕ) (step : SlotStep) �
 unfolding slots_after
 after_past fs slots s step past =
     let same : slice_set (map view_of slots) s (slot_after (slot_at (record { fs = fs; views = map view_of slots }) s) step) ≡ map view_of slots =
-        set_past (map view_of slots) s _ (rw (length-map slots view_of) past)
+    set_past (map view_of slots) s _ (rw (length-map slots view_of) past)
     in rw same refl
 
 is_of : (fs : ℕ) (slots : List SlotNow) (s : ℕ) (slot : SlotNow) → s < length slots → slot ≡ get_or slots s slot
@@ -164,10 +164,10 @@ one_more fs n slots new so_far is =
 pub no_parts_of : (fs n : ℕ) (slots : List SlotNow) → map view_of slots ≡ replicate n (no_part fs) → AreOf fs slots
 no_parts_of fs n slots is = record {
   each = λ k d below unspent.
-    let many : length slots ≡ n = sym (length-map slots view_of) ∙ ap length is ∙ length-replicate n (no_part fs) in
-    let view : (get_or slots k d).view ≡ no_part fs =
-        sym (get_or-map view_of slots k d (no_part fs) below) ∙ ap (λ rows. get_or rows k (no_part fs)) is ∙ get_or-replicate n k (no_part fs) (no_part fs) (omega (arith, below, many))
-    in ap (λ (v : SlotView). v.fs) view;
+      let many : length slots ≡ n = sym (length-map slots view_of) ∙ ap length is ∙ length-replicate n (no_part fs) in
+      let view : (get_or slots k d).view ≡ no_part fs =
+      sym (get_or-map view_of slots k d (no_part fs) below) ∙ ap (λ rows. get_or rows k (no_part fs)) is ∙ get_or-replicate n k (no_part fs) (no_part fs) (omega (arith, below, many))
+      in ap (λ (v : SlotView). v.fs) view;
 }
 
 pub first_of : (fs n s : ℕ) (slots : List SlotNow) (new : SlotNow) → map view_of slots ≡ replicate n (no_part fs) → new.view ≡ first_slot fs

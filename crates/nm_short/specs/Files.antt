@@ -1,5 +1,5 @@
 -- A file system, as the code keeps it.
-use Rattle.std.specs.Prelude.{◌≡◌, ℕ, List, [], ◌∷◌, Option, Some, None, IfSome}
+use Rattle.std.specs.Prelude.{ℕ, [], ◌∷◌, Option, Some, None, IfSome}
 use Rattle.nm_rules.specs.declared.cause.Cause.TheVariants as cause
 use Rattle.nm_script.specs.declared.report.MoveTold.TheVariants as move_told
 use Rattle.nm_script.specs.declared.script.Head.{Head}

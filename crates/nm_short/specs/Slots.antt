@@ -1,5 +1,5 @@
 -- What each server has of a file system, as the code keeps it.
-use Rattle.std.specs.Prelude.{◌≡◌, ℕ, false, All, List, Option, Some, None, map, option_map, slice_get, slice_set, unwrap_or}
+use Rattle.std.specs.Prelude.{◌≡◌, ℕ, false, All, List, slice_get, slice_set, unwrap_or}
 use Rattle.nm_slot.specs.Changes.{slot_after}
 use Rattle.nm_slot.specs.SlotNow.{SlotNow, SlotView, SlotStep}
 use Rattle.nm_short.specs.Tables.{no_part}

@@ -132,9 +132,7 @@ impl FileSlots {
             return Ok(Told::Stopped);
         };
         match answer {
-            Enter::Entered(pass) => {
-                Ok(self.call(clients, server, pass, client, action, call)?)
-            }
+            Enter::Entered(pass) => { Ok(self.call(clients, server, pass, client, action, call)?) }
             Enter::Delay => {
                 clients.take_up(client, action)?;
                 Ok(Told::Delayed)

@@ -260,8 +260,13 @@ impl FileSlots {
         match answer {
             Accept::Held => {
                 let number = sent.image.number;
-                self.handed =
-                    hand_over(&mut self.slots, self.handed, sent.source, sent.dest, number)?;
+                self.handed = hand_over(
+                    &mut self.slots,
+                    self.handed,
+                    sent.source,
+                    sent.dest,
+                    number,
+                )?;
                 Ok(Some(Accept::Held))
             }
             Accept::Old { .. } | Accept::Live => Ok(Some(answer)),

@@ -6,8 +6,8 @@ pub loop-row-preserved : goal.loop-row-preserved
 loop-row-preserved c = record {
   number = omega (arith, c.loop-row.invariant.number);
   files = rw c.in_ok-push.ensures.items (one_file _ c.loop-row.number c.loop-row.row-index c.args.head.now.file_systems c.row-item.result
-    c.loop-row.files.items _ c.in_ok-file.file (rw (← c.items-row-items.ensures) c.loop-row-test.true) (rw c.items-row-items.ensures at c.row-item.is)
-    (rw c.file_number.ensures at c.in_ok-file.ensures) c.loop-row.invariant.files);
+      c.loop-row.files.items _ c.in_ok-file.file (rw (← c.items-row-items.ensures) c.loop-row-test.true) (rw c.items-row-items.ensures at c.row-item.is)
+      (rw (c.file_number.ensures, c.items-servers.ensures) at c.in_ok-file.ensures) c.loop-row.invariant.files);
 }
 
 pub returns : goal.returns

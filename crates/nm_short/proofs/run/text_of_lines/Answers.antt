@@ -1,4 +1,3 @@
-use Rattle.std.proofs.Common.{◌∙◌}
 use Rattle.nm_short.proofs.RunLaws.{text_next, text_done}
 use Rattle.nm_short.proofs.run.text_of_lines.Goals as goal
 
