@@ -1,37 +1,20 @@
 -- What the program's answer to bytes says of its source's whole input.
 use Rattle.std.proofs.Common.{◌≡◌, ◌<◌, ◌≤◌, ◌+◌, ◌^◌, ℕ, List, [], ◌∷◌, ◌++◌, length, take, subst, length-take, refl, ap, sym, ◌∙◌, arith}
-use Rattle.std.specs.Prelude.{All, map, Option, Some, None, IfSome, Result, Err, nat_lt}
+use Rattle.std.specs.Prelude.{Option, Some, None, IfSome, Result, Err, nat_lt}
 use Rattle.std.proofs.lemmas.Bool.{ltb-true, ltb-false}
 use Rattle.std.proofs.lemmas.Bool.Decides.{nat_tests}
 use Rattle.std.proofs.Common.{Bool, true, false, cond}
 use Rattle.nm_script.specs.declared.script.ScriptFault.{ScriptFault}
-use Rattle.std.proofs.lemmas.List.Elements.{All-nil, All-cons, All-head, All-tail}
-use Rattle.nm_script.specs.declared.script.ClientRow.{ClientRow}
 use Rattle.nm_script.specs.declared.script.Script.{Script}
 use Rattle.nm_script.specs.declared.script.ScriptFault.TheVariants.{At}
 use Rattle.nm_script.specs.declared.script.Why.{Why}
-use Rattle.nm_script.specs.Grammar.{IsName, IsScript, IsWellFormed, server_names, file_system_names}
+use Rattle.nm_script.specs.Grammar.{IsScript}
 use Rattle.nm_script.specs.Reading.{script_at, cut_at, whole_at}
 use Rattle.nm_script.specs.Text.{fault_text_of}
-use Rattle.nm_cmd.specs.Tables.{AreShort}
 use Rattle.nm_cmd.specs.Replay.{IsRan, IsRefused, IsAnswer, written_for}
 use Rattle.nm_cmd.specs.declared.replay.Answer.{Answer}
 use Rattle.nm_cmd.specs.declared.replay.Answer.TheVariants.{Ran, Refused}
 use Rattle.std.proofs.lemmas.List.{take_all, take-take}
-
-short_behind : (rows : List ClientRow) → All IsName (map (λ (row : ClientRow). row.name) rows) → AreShort rows
-short_behind [] names = All-nil (λ (row : ClientRow). length row.name ≤ 16)
-short_behind (row ∷ rows) names = All-cons (λ (row : ClientRow). length row.name ≤ 16) row rows
-    (All-head IsName row.name (map (λ (row : ClientRow). row.name) rows) names).short
-    (short_behind rows (All-tail IsName row.name (map (λ (row : ClientRow). row.name) rows) names))
-
-names_behind : (front : List (List ℕ)) (rows : List ClientRow) → All IsName (front ++ map (λ (row : ClientRow). row.name) rows) → AreShort rows
-names_behind [] rows names = short_behind rows names
-names_behind (name ∷ front) rows names = names_behind front rows (All-tail IsName name (front ++ map (λ (row : ClientRow). row.name) rows) names)
-
--- the names of a script's clients are short
-pub clients_are_short : (s : Script) → IsWellFormed s → AreShort s.head.clients
-clients_are_short s formed = names_behind (server_names s.head ++ file_system_names s.head) s.head.clients formed.head.names
 
 -- the answer to bytes that are no script
 pub refused_is : (bytes : List ℕ) (line : ℕ) (why : Why) (text : List ℕ) → script_at bytes ≡ Err (At line why)

@@ -9,7 +9,7 @@ use Rattle.nm_script.specs.Grammar.{IsScript}
 use Rattle.nm_script.specs.Reading.{script_at}
 use Rattle.nm_script.specs.Text.{text_of, fault_text_of, usage_text_of}
 use Rattle.nm_script.specs.Outside.{with_more, HasRisen, WrotePart}
-use Rattle.nm_cmd.specs.ShortRun.{short_run}
+use Rattle.nm_short.specs.ShortRun.{short_run}
 use Rattle.nm_cmd.specs.declared.status.Status.{Status}
 use Rattle.nm_cmd.specs.declared.status.Status.TheVariants.{Done, Script as NoScript, Usage, ReadFault, WriteFault, Memory}
 use Rattle.nm_cmd.specs.declared.replay.Answer.{Answer}

@@ -2,9 +2,7 @@
 //! output.
 #![tactic(auto)]
 
-mod clients;
 mod replay;
-mod run;
 mod standard;
 mod status;
 #[cfg(test)]

@@ -1,45 +1,19 @@
 //! What `nfsmove replay` does: it reads a script from a source, runs it, and writes its text to a sink.
 ghost use Rattle.std.specs.Prelude.{◌≡◌, ◌≤◌, true, false, map, length, IfOk, IfSome, IsTrue, IsErrOf};
 ghost use Rattle.std.specs.String.{string_bytes};
-ghost use Rattle.nm_script.specs.Text.{text_of, usage_text_of};
+ghost use Rattle.nm_script.specs.Text.{usage_text_of};
 ghost use Rattle.nm_script.specs.Outside.{HasRisen, with_more};
 ghost use Rattle.nm_script.specs.declared.outside.ReadAllFault.TheVariants.{Failed as SourceFailed};
-ghost use Rattle.nm_cmd.specs.ShortRun.{short_run};
-ghost use Rattle.nm_cmd.specs.Tables.{AreShort};
+ghost use Rattle.nm_short.specs.ShortRun.{short_run};
 ghost use Rattle.nm_cmd.specs.Replay.{are_replay, ran_of, IsAnswer, IsReplayed, IsTurnedAway, IsCutShort, IsUsageOrWriteFault};
 
 use crate::Status;
-use crate::run::Run;
-use nm_rules::{FsNum, Memory};
+use nm_rules::Memory;
 use nm_script::{
-    ReadAllFault, Script, ScriptFault, Sink, Source, append_line_text, fault_text, read_all,
-    read_script, write_all,
+    ReadAllFault, ScriptFault, Sink, Source, fault_text, read_all, read_script, write_all,
 };
+use nm_short::text_of_run;
 use std::alloc::Global;
-
-// The first file system's number.
-fn first_fs() -> FsNum
-    ensures { result ≡ 0 }
-{
-    match FsNum::new(0) {
-        Some(fs) => fs,
-        None => unreachable!(),
-    }
-}
-
-// The text of a script's run.
-fn text_of_run(alloc: Global, script: &Script) -> Result<Vec<u8>, Memory>
-    requires { AreShort script.now.head.clients }
-    ensures { IfOk result (λ text. text.items ≡ text_of (short_run script.now)) }
-{
-    let mut run = Run::new(alloc, first_fs())?;
-    let mut text = Vec::new(alloc);
-    for line in script.lines.items() {
-        let report = run.line(&script.head, line)?;
-        append_line_text(&mut text, &report)?;
-    }
-    Ok(text)
-}
 
 /// The answer to a source's bytes.
 #[derive(Debug, Drop)]

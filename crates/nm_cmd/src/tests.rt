@@ -86,6 +86,130 @@ fn worked_scripts_print_their_texts(rt: HostRuntime) -> Result<(), Fail> {
     Ok(())
 }
 
+// The head of the scripts of moves.
+const TWO_SERVERS: &str =
+    "nfsmove 1\nlease 90\nserver S1\nserver S2\nfs X at S1\nclient C1 7\nclient C2 9\n";
+
+// Runs the lines behind that head, and compares what they print.
+fn prints(rt: HostRuntime, lines: &str, text: &str) -> Result<(), Fail> {
+    let alloc = rt.alloc();
+    let mut script = TWO_SERVERS.to_string(alloc)?;
+    script.push_str(lines)?;
+    let came = run(alloc, &["replay"], script.as_bytes(), &[], &[])?;
+    assert_eq!(rt; came.status, Status::Done);
+    assert_eq!(rt; came.written.as_slice(), text.as_bytes());
+    Ok(())
+}
+
+#[test]
+fn move_lines_without_a_move(rt: HostRuntime) -> Result<(), Fail> {
+    let lines = "commit X
+settle X
+freeze X
+abandon X
+move X S1
+move X S2
+move X S2
+abandon X
+";
+    let text = "no packet
+no packet
+X idle
+X idle
+X same
+X closing S1 S2 move 1
+X busy 1
+X back S1
+";
+    prints(rt, lines, text)
+}
+
+#[test]
+fn offer_again_after_install(rt: HostRuntime) -> Result<(), Fail> {
+    let lines = "move X S2
+freeze X
+commit X
+abandon X
+settle X
+settle X
+commit X
+abandon X
+";
+    let text = "X closing S1 S2 move 1
+X frozen S1 S2 move 1
+X passing S1 S2 move 1
+X late S1
+X at S2
+X at S2
+X refused OLD 1
+X idle
+";
+    prints(rt, lines, text)
+}
+
+#[test]
+fn delayed_create_goes_on(rt: HostRuntime) -> Result<(), Fail> {
+    let lines = "move X S2
+freeze X
+do C1 create X f r none o
+do C1 close X f o
+do C1 finish
+abandon X
+do C1 finish
+";
+    let text = "X closing S1 S2 move 1
+X frozen S1 S2 move 1
+C1 create DELAY
+C1 close BUSY
+C1 create DELAY
+X back S1
+C1 create OK
+";
+    prints(rt, lines, text)
+}
+
+#[test]
+fn settle_lost_then_abandon(rt: HostRuntime) -> Result<(), Fail> {
+    let lines = "move X S2
+freeze X
+commit X
+abandon X
+settle X
+settle X
+";
+    let text = "X closing S1 S2 move 1
+X frozen S1 S2 move 1
+X passing S1 S2 move 1
+X late S1
+X at S2
+X at S2
+";
+    prints(rt, lines, text)
+}
+
+#[test]
+fn close_while_passing(rt: HostRuntime) -> Result<(), Fail> {
+    let lines = "do C1 create X f rw none o
+move X S2
+freeze X
+commit X
+do C1 close X f o
+settle X
+do C1 finish
+show X
+";
+    let text = "C1 create OK
+X closing S1 S2 move 1
+X frozen S1 S2 move 1
+X passing S1 S2 move 1
+C1 close DELAY
+X at S2
+C1 close OK
+X at S2
+";
+    prints(rt, lines, text)
+}
+
 #[test]
 fn other_words_are_usage(rt: HostRuntime) -> Result<(), Fail> {
     let alloc = rt.alloc();

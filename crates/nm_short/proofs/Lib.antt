@@ -2,6 +2,8 @@ pub mod AnswersSay
 pub mod BeganKept
 pub mod ClientLaws
 pub mod DeliveryLaws
+pub mod FileFirst
+pub mod FileLemmas
 pub mod FirstLaws
 pub mod FreezeLaws
 pub mod HistoryFacts
@@ -15,5 +17,6 @@ pub mod OrderedLaws
 pub mod PhaseLaws
 pub mod RunLaws
 pub mod SentStands
+pub mod SlotLemmas
 pub mod Standing
 pub mod StepWords

@@ -1,4 +1,7 @@
+pub mod Files
 pub mod Known
 pub mod RunFacts
+pub mod Runs
 pub mod ShortRun
+pub mod Slots
 pub mod Tables

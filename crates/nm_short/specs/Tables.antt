@@ -1,8 +1,8 @@
 -- The same run over what the servers have: what the code keeps in the place of the list of steps.
-use Rattle.std.specs.Prelude.{ℕ, zero, suc, ◌+◌, ◌≤◌, All, length, Bool, true, false, List, [], ◌∷◌, ◌++◌, Option, Some, None, map, option_map, unwrap_or, replicate, slice_get, slice_set, if◌then◌else◌}
+use Rattle.std.specs.Prelude.{ℕ, zero, suc, ◌+◌, ◌≤◌, All, length, Bool, true, false, List, [], ◌∷◌, ◌++◌, Option, Some, None, unwrap_or, replicate, slice_get, slice_set, if◌then◌else◌}
 use Rattle.nm_rules.specs.Actions.{fs_of}
 use Rattle.nm_rules.specs.Held.{held_table}
-use Rattle.nm_rules.specs.Seen.{Seen, empty}
+use Rattle.nm_rules.specs.Seen.{empty}
 use Rattle.nm_rules.specs.declared.action.Action.{Action}
 use Rattle.nm_rules.specs.declared.calls.Call.{Call}
 use Rattle.nm_rules.specs.declared.calls.Verdict.TheVariants.{Pass}
@@ -41,10 +41,10 @@ use Rattle.nm_slot.specs.Phases.Phase.{At, Closing, Frozen, Passing}
 use Rattle.nm_slot.specs.SlotNow.{Offer, Stage, SlotView, SlotStep, HandedOver, nothing_yet, phase_of}
 use Rattle.nm_slot.specs.SlotNow.Doing.{Serves}
 use Rattle.nm_slot.specs.SlotNow.HandedOver.{Committed, Again, Dead}
-use Rattle.nm_slot.specs.SlotNow.SlotStep.{Entering, Leaving, Applying, Beginning, Freezing, Imaging, Committing, Abandoning, Accepting, Installing}
+use Rattle.nm_slot.specs.SlotNow.SlotStep.{Entering, Leaving, Applying, Beginning, Freezing, Committing, Abandoning, Accepting, Installing}
 use Rattle.nm_slot.specs.SlotNow.Stage.{Away, Here}
 use Rattle.nm_short.specs.Known.{Known, knows_nothing, learned, call_of, place_of, sent_to, hand_of, put_down, taken_up}
-use Rattle.nm_short.specs.ShortRun.{Order, fs_name, server_name, phase_shown, phase_row, move_row, abandon_told, requests_limit, reply_of, unknown_status, outcome}
+use Rattle.nm_short.specs.ShortRun.{Order, fs_name, phase_shown, phase_row, move_row, abandon_told, requests_limit, reply_of, unknown_status, outcome}
 use Rattle.nm_short.specs.ShortRun.Order.{ToMove, ToFreeze, ToAbandon, ToCommit, ToSettle, ToShift, ToShow}
 
 -- ---- a file system

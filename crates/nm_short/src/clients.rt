@@ -1,7 +1,7 @@
 //! What the clients of a script know, and what they send.
-ghost use Rattle.std.specs.Prelude.{◌≡◌, ◌==◌, ◌≤◌, ◌++◌, not, length, filter, codes, IfOk, OnOk, option_copied};
+ghost use Rattle.std.specs.Prelude.{◌≡◌, ◌==◌, ◌≤◌, ◌++◌, not, length, filter, find, codes, IfOk, OnOk, option_copied};
 ghost use Rattle.nm_rules.specs.Shares.{next_seqid};
-ghost use Rattle.nm_short.specs.Known.{knows_nothing, seqid_of, other_seqids, moved_on, held_of, others_held, holds_opened, holds_closed, learned, learned_open, party_of, owner_text, open_call, close_call, call_of};
+ghost use Rattle.nm_short.specs.Known.{knows_nothing, is_place_of, seqid_of, other_seqids, moved_on, held_of, others_held, holds_opened, holds_closed, learned, learned_open, place_of, sent_to, hand_of, put_down, taken_up, party_of, owner_text, open_call, close_call, call_of};
 
 use nm_rules::{
     Action, Bytes, Call, CloseAction, CloseArgs, Deed, FsNum, Instance, Items, Memory, OpStatus,
@@ -183,6 +183,39 @@ fn hold_closed(rows: &mut Vec<HeldOpen>, client: u32, a: &CloseAction, value: Re
     }
 }
 
+// Where a client believes a file system to be.
+#[tactic(auto, unfolding(crate::specs::Known::place_of))]
+fn find_place(rows: &[Believed], client: u32, fs: FsNum, first: ServerNum) -> ServerNum
+    ensures { result ≡ place_of client fs first rows.now }
+{
+    rows.iter()
+        .find(|row| row.client == client && row.fs == fs)
+        .map(|row| row.at)
+        .unwrap_or(first)
+}
+
+// What is believed of other clients and file systems.
+fn drop_place(rows: &mut Vec<Believed>, client: u32, fs: FsNum)
+    ensures { rows.new.items ≡ filter (λ row. not (is_place_of client fs row)) rows.old.items }
+{
+    rows.retain(|row| !(row.client == client && row.fs == fs));
+}
+
+// What all other clients have in hand.
+#[tactic(auto, unfolding(crate::specs::Known::put_down))]
+fn drop_hand(rows: &mut Vec<InHand>, client: u32)
+    ensures { rows.new.items ≡ put_down client rows.old.items }
+{
+    rows.retain(|row| !(row.client == client));
+}
+
+// What a client has in hand.
+fn find_hand<'a>(rows: &'a [InHand], client: u32) -> Option<&'a InHand>
+    ensures { option_copied result ≡ find (λ row. row.client == client) rows.now }
+{
+    rows.iter().find(|row| row.client == client)
+}
+
 // Bytes behind others.
 fn joined(alloc: Global, front: &[u8], back: &[u8]) -> Result<Vec<u8>, Memory>
     ensures { IfOk result (λ bytes. bytes.items ≡ front.now ++ back.now) }
@@ -336,5 +369,51 @@ impl Clients {
                 Ok(())
             }
         }
+    }
+
+    /// Where a client believes a file system to be that was at `first` at first.
+    pub fn place_of(&self, client: u32, fs: FsNum, first: ServerNum) -> ServerNum
+        ensures { result ≡ place_of client fs first self.now.places }
+    {
+        find_place(&self.places, client, fs, first)
+    }
+
+    /// A client was sent to that server. After want of memory nothing is promised of what is known.
+    #[tactic(auto, unfolding(crate::specs::Known::sent_to))]
+    pub fn send_to(&mut self, client: u32, fs: FsNum, at: ServerNum) -> Result<(), Memory>
+        ensures { OnOk result (self.new ≡ record self.old { places = sent_to client fs at self.old.places }) }
+    {
+        drop_place(&mut self.places, client, fs);
+        self.places.push(Believed { client, fs, at })?;
+        Ok(())
+    }
+
+    /// The action that a client has in hand, once more.
+    #[tactic(auto, unfolding(crate::specs::Known::hand_of))]
+    pub fn in_hand(&self, client: u32) -> Result<Option<Action>, Memory>
+        ensures { IfOk result (λ action. action ≡ hand_of client self.now.in_hand) }
+    {
+        match find_hand(&self.in_hand, client) {
+            Some(row) => Ok(Some(row.action.copy()?)),
+            None => Ok(None),
+        }
+    }
+
+    /// A client has nothing in hand any more.
+    pub fn put_down(&mut self, client: u32)
+        ensures { self.new ≡ record self.old { in_hand = put_down client self.old.in_hand } }
+    {
+        drop_hand(&mut self.in_hand, client);
+    }
+
+    /// A client has that action in hand. After want of memory nothing is promised of what is known.
+    #[tactic(auto, unfolding(crate::specs::Known::taken_up))]
+    pub fn take_up(&mut self, client: u32, action: &Action) -> Result<(), Memory>
+        ensures { OnOk result (self.new ≡ record self.old { in_hand = taken_up client action.now self.old.in_hand }) }
+    {
+        let action = action.copy()?;
+        drop_hand(&mut self.in_hand, client);
+        self.in_hand.push(InHand { client, action })?;
+        Ok(())
     }
 }

@@ -2,4 +2,12 @@
 //! client. What the servers of a move send one another waits for the lines that deliver it.
 #![tactic(auto)]
 
+mod asks;
 mod clients;
+mod files;
+mod names;
+mod orders;
+mod run;
+mod slots;
+
+pub use run::{Run, text_of_run};

@@ -1,4 +1,6 @@
 //! Passes: leave to make calls on a file system.
+ghost use Rattle.std.specs.Prelude.{◌≡◌};
+
 use nm_rules::{Epoch, FsNum};
 use std::marker::Model;
 
@@ -16,4 +18,13 @@ impl Model for FsPass {
     ghost Value = { PassNow };
 
     ghost view = { λ p. record { fs = p.fs; epoch = p.epoch } };
+}
+
+impl FsPass {
+    /// The epoch in which it was given.
+    pub fn epoch(&self) -> Epoch
+        ensures { result ≡ self.now.epoch }
+    {
+        self.epoch
+    }
 }

@@ -174,4 +174,11 @@ impl Slot {
             },
         }
     }
+
+    /// Whether memory was wanting in the middle of a call, so that the state that is here answers want of memory alone.
+    pub fn is_spent(&self) -> bool
+        ensures { result ≡ self.now.spent }
+    {
+        self.stage.is_spent()
+    }
 }

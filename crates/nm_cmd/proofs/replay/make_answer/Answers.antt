@@ -1,11 +1,8 @@
 use Rattle.std.proofs.Common.{◌≡◌, Ok, Err}
 use Rattle.nm_script.specs.declared.script.ScriptFault.TheVariants.{At}
 use Rattle.nm_script.specs.Reading.{script_at}
-use Rattle.nm_cmd.proofs.ReplayLaws.{clients_are_short, refused_is}
+use Rattle.nm_cmd.proofs.ReplayLaws.{refused_is}
 use Rattle.nm_cmd.proofs.replay.make_answer.Goals as goal
-
-pub text_of_run-requires : goal.text_of_run-requires
-text_of_run-requires c = clients_are_short c.in-Ok.script c.in-Ok.ensures.sound
 
 pub returns-in_ok-fault_text-in-Err-At : goal.returns-in_ok-fault_text-in-Err-At
 returns-in_ok-fault_text-in-Err-At c =

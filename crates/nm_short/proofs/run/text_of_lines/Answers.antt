@@ -1,6 +1,5 @@
-use Rattle.std.proofs.Common.{◌∙◌}
-use Rattle.nm_cmd.proofs.RunLaws.{text_next, text_done, text_of_script}
-use Rattle.nm_cmd.proofs.replay.text_of_run.Goals as goal
+use Rattle.nm_short.proofs.RunLaws.{text_next, text_done}
+use Rattle.nm_short.proofs.run.text_of_lines.Goals as goal
 
 pub loop-line-preserved : goal.loop-line-preserved
 loop-line-preserved c =
@@ -11,4 +10,3 @@ loop-line-preserved c =
 pub returns : goal.returns
 returns c =
     text_done c.args.script.now.head c.loop-line.run c.args.script.now.lines c.loop-line.line-index _ _ (rw (← c.items-line-items.ensures) c.loop-line-test.false) c.loop-line.invariant
-    ∙ text_of_script c.args.script.now
