@@ -130,7 +130,7 @@ never_accepts : (fs : ℕ) (p : Phase) (begins : ℕ) (move : ℕ → Move) (own
     → (offer : Offer) → s ≡ source_of p → step ≡ Accepting offer accept.Held → ⊥
 unfolding accept_answer
 never_accepts fs p begins move own t passes s step a d facts free offer at e =
-    let made : offer.number ≤ begins = began (source_of p) begins move own offer.number offer facts.agreed.numbers (offer_made move passes s step offer e d) in
+    let made : offer.number ≤ begins = began facts.agreed.numbers offer.number offer (offer_made move passes s step offer e d) in
     let known : (own s).known ≡ begins = ap (λ q. (own q).known) at ∙ facts.agreed.numbers.holder in
     never_held offer.number (own s) (column p t s) (ap (λ q. (own q).held) at ∙ free) (omega arith) (held_answer (slot_by fs p t own s) step offer e a)
 

@@ -5,9 +5,11 @@
 mod asks;
 mod clients;
 mod files;
+mod laws;
 mod names;
 mod orders;
 mod run;
 mod slots;
 
+pub use laws::{runs_are_accounted_for, tables_tell_the_run};
 pub use run::{Run, text_of_run};
