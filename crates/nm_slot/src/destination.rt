@@ -5,6 +5,7 @@ ghost use Rattle.nm_slot.specs.Changes.{slot_after};
 ghost use Rattle.nm_slot.specs.Images.{offer_of, MayBeOffered};
 ghost use Rattle.nm_slot.specs.SlotNow.Stage.{Away};
 ghost use Rattle.nm_slot.specs.SlotNow.SlotStep.{Accepting, Installing, Withdrawing};
+ghost use Rattle.nm_slot.specs.declared.answers.Accept.TheVariants.{Held as HeldNow};
 
 use crate::stage::{Doing, Stage};
 use crate::{Accept, Image, Install, Slot};
@@ -86,7 +87,7 @@ impl Slot {
     }
 
     /// Holds an offer, a copy of it, where no move of its number or a greater one is known here and the file system itself
-    /// isn't here.
+    /// isn't here. Memory is wanted only for the copy.
     #[tactic(auto, unfolding(crate::specs::Answers::accept_answer, crate::specs::Changes::slot_after))]
     pub fn accept(&mut self, image: &Image) -> Result<Accept, Memory>
         requires offered { MayBeOffered self.old.view.fs image.now }
@@ -94,6 +95,7 @@ impl Slot {
         ensures after { IfOk result (λ a. self.new.view ≡ slot_after self.old.view (Accepting (offer_of image.now) a)) }
         ensures spent { self.new.spent ≡ self.old.spent }
         ensures err { OnErr result (self.new ≡ self.old) }
+        ensures needed { OnErr result ((accept_answer self.old.view image.now.number ≡ HeldNow) × (is_offer_of image.now.number self.old.view.own.held ≡ false)) }
     {
         let answer = self.accepted(image.number);
         match answer {

@@ -5,7 +5,7 @@ ghost use Rattle.nm_rules.specs.declared.calls.Event.TheVariants.{Asked};
 ghost use Rattle.nm_slot.specs.Answers.{enter_answer, apply_answer, turned_away, let_in};
 ghost use Rattle.nm_slot.specs.Changes.{slot_after};
 ghost use Rattle.nm_slot.specs.Images.{offer_of};
-ghost use Rattle.nm_slot.specs.Kept.{doing_of, IsKeptOrSpent, IsReplyAt, Stops, is_staged};
+ghost use Rattle.nm_slot.specs.Kept.{doing_of, IsKeptOrSpent, IsReplyAt, Goes, Stops, is_staged};
 ghost use Rattle.nm_slot.specs.SlotNow.SlotStep.{Entering, Leaving, Applying};
 ghost use Rattle.nm_slot.specs.declared.answers.Answer.TheVariants.{Done};
 
@@ -146,8 +146,8 @@ impl Slot {
         }
     }
 
-    /// Makes a call with a pass. No lease is judged yet. After want of memory the slot is as it was, or its state answers
-    /// want of memory alone from then on.
+    /// Makes a call with a pass. No lease is judged yet. Memory is wanted only where the call goes on to the state. After it
+    /// the slot is as it was, or its state answers want of memory alone from then on.
     #[tactic(auto, using(crate::proofs::StateLemmas::goes_done), unfolding(crate::specs::Answers::apply_answer, crate::specs::Changes::slot_after))]
     pub fn apply(
         &mut self,
@@ -162,6 +162,7 @@ impl Slot {
         ensures spent { OnOk result (self.new.spent ≡ false) }
         ensures unspent { OnOk result (self.old.spent ≡ false) }
         ensures err { OnErr result (IsKeptOrSpent self.old self.new) }
+        ensures needed { OnErr result (self.old.spent ≡ false → Goes pass.now.epoch self.old.view.stage self.old.view.own) }
     {
         let _no_lease = lease;
         if self.stage.is_spent() {

@@ -1,5 +1,5 @@
 //! A file system at one server.
-ghost use Rattle.std.specs.Prelude.{◌≡◌, option_map, IfOk, IfSome, false};
+ghost use Rattle.std.specs.Prelude.{◌≡◌, option_map, IfOk, IfSome, IsSome, OnErr, false};
 ghost use Rattle.nm_slot.specs.Images.{offer_of};
 ghost use Rattle.nm_slot.specs.Kept.{doing_of, first_slot};
 ghost use Rattle.nm_slot.specs.Shown.{table_answer};
@@ -164,6 +164,7 @@ impl Slot {
     pub fn table(&self) -> Result<Option<HeldTable>, Memory>
         ensures table { IfOk result (λ table. table ≡ table_answer self.now.view) }
         ensures unspent { IfOk result (λ table. self.now.spent ≡ false) }
+        ensures needed { OnErr result (IsSome (table_answer self.now.view)) }
     {
         match &self.stage {
             Stage::Here { state, .. } => Ok(Some(state.table()?)),

@@ -1,5 +1,5 @@
 //! The source of a move.
-ghost use Rattle.std.specs.Prelude.{◌≡◌, ◌≤◌, ◌<◌, ◌^◌, false, None, Some, IfOk, IfSome, option_map};
+ghost use Rattle.std.specs.Prelude.{◌≡◌, ◌≤◌, ◌<◌, ◌^◌, false, None, Some, IfOk, IfSome, IsSome, OnOk, OnErr, option_map};
 ghost use Rattle.nm_slot.specs.Answers.{begin_answer, freeze_answer, image_answer, commit_answer, abandon_answer, is_at_end, committed_away, offered};
 ghost use Rattle.nm_slot.specs.Changes.{slot_after};
 ghost use Rattle.nm_slot.specs.Images.{offer_of, image_of, MayBeOffered};
@@ -79,12 +79,18 @@ impl Slot {
         self.stage.freeze(self.passes)
     }
 
-    /// What is on offer: a copy of the frozen state, for the next epoch. `None` exactly where it isn't frozen.
+    /// What is on offer: a copy of the frozen state, for the next epoch. `None` exactly where it isn't frozen. Memory is wanted
+    /// only for the copy, and where the state answers want of memory alone.
     #[tactic(auto, unfolding(crate::specs::Answers::image_answer))]
     pub fn image(&self) -> Result<Option<Image>, Memory>
         ensures value { IfOk result (λ image. image ≡ option_map (image_of self.now.view.fs) (image_answer self.now.view)) }
         ensures fits { IfOk result (λ image. IfSome image (MayBeOffered self.now.view.fs)) }
+        ensures unspent { OnOk result (self.now.spent ≡ false) }
+        ensures needed { OnErr result (self.now.spent ≡ false → IsSome (image_answer self.now.view)) }
     {
+        if self.stage.is_spent() {
+            return Err(Memory);
+        }
         match &self.stage {
             Stage::Away(_) => Ok(None),
             Stage::Here { doing, state } => match *doing {

@@ -1,5 +1,4 @@
-//! The calls on a slot in each phase. The expected answers are those of the table in docs/DEFINITIONS.md, "A file system
-//! at a server".
+//! The calls on a slot in each phase. The expected answers are those of the table of calls in docs/DEFINITIONS.md.
 ghost use Rattle.std.specs.Prelude.{◌≡◌, ◌≤◌, ◌^◌, IfOk};
 ghost use Rattle.nm_slot.specs.Images.{MayBeOffered};
 
@@ -59,10 +58,12 @@ fn accept(rt: &impl Abort, slot: &mut Slot, image: &Image) -> Result<Accept, Mem
 }
 
 // Hands what is on offer to another slot.
-fn offer(rt: &impl Abort, from: &Slot, to: &mut Slot) -> Result<Accept, Fail> {
+fn offer(rt: &impl Abort, from: &Slot, to: &mut Slot) -> Result<Accept, Memory> {
     assert!(rt; from.fs().number() == 0);
-    let image = from.image()?.ok_or("it is frozen")?;
-    Ok(accept(rt, to, &image)?)
+    match from.image()? {
+        Some(image) => accept(rt, to, &image),
+        None => panic!(rt; "it is frozen"),
+    }
 }
 
 #[derive(Clone, Copy)]
@@ -80,11 +81,9 @@ fn slot_in(rt: &impl Abort, alloc: Global, made: Made) -> Result<Slot, Fail> {
     match made {
         Made::Never => Ok(Slot::new(alloc, x()?, None)?),
         Made::Incoming => {
+            let offer = image(alloc, 1, 1, 0)?;
             let mut slot = Slot::new(alloc, x()?, None)?;
-            assert_eq!(rt;
-                accept(rt, &mut slot, &image(alloc, 1, 1, 0)?)?,
-                Accept::Held
-            );
+            assert_eq!(rt; accept(rt, &mut slot, &offer), Ok(Accept::Held));
             Ok(slot)
         }
         Made::Serving | Made::Closing | Made::Frozen | Made::Gone => served(rt, alloc, made),
@@ -93,11 +92,12 @@ fn slot_in(rt: &impl Abort, alloc: Global, made: Made) -> Result<Slot, Fail> {
 
 fn served(rt: &impl Abort, alloc: Global, made: Made) -> Result<Slot, Fail> {
     let one = MoveNum::new(1);
+    let (here, dest) = (server(0)?, server(1)?);
     let mut slot = Slot::new(alloc, x()?, Some(no_files(alloc)?))?;
     if matches!(made, Made::Serving) {
         return Ok(slot);
     }
-    assert_eq!(rt; slot.begin(server(0)?, server(1)?), Begin::Begun(one));
+    assert_eq!(rt; slot.begin(here, dest), Begin::Begun(one));
     if matches!(made, Made::Closing) {
         return Ok(slot);
     }
@@ -132,43 +132,61 @@ struct Row {
     freeze: (Freeze, Phase),
     commit: (Handed, Phase),
     abandon: (Abandon, Phase),
-    accept: (Accept, Phase),
+    accept: (Result<Accept, Memory>, Phase),
     install: (Install, Phase),
     withdraw: (bool, Phase),
 }
 
-fn check_source(rt: &impl Abort, alloc: Global, made: Made, row: &Row) -> Result<(), Fail> {
+fn begun(rt: &impl Abort, alloc: Global, made: Made) -> Result<(Begin, Phase), Fail> {
+    let (here, dest) = (server(0)?, server(1)?);
     let mut slot = slot_in(rt, alloc, made)?;
-    let begun = slot.begin(server(0)?, server(1)?);
-    assert_eq!(rt; (begun, slot.phase()), row.begin);
-    let mut slot = slot_in(rt, alloc, made)?;
-    let frozen = slot.freeze();
-    assert_eq!(rt; (frozen, slot.phase()), row.freeze);
-    let mut slot = slot_in(rt, alloc, made)?;
-    let handed = told(&slot.commit(MoveNum::new(1)));
-    assert_eq!(rt; (handed, slot.phase()), row.commit);
-    let mut slot = slot_in(rt, alloc, made)?;
-    let back = slot.abandon();
-    assert_eq!(rt; (back, slot.phase()), row.abandon);
-    Ok(())
+    Ok((slot.begin(here, dest), slot.phase()))
 }
 
-fn check_destination(rt: &impl Abort, alloc: Global, made: Made, row: &Row) -> Result<(), Fail> {
+fn frozen(rt: &impl Abort, alloc: Global, made: Made) -> Result<(Freeze, Phase), Fail> {
     let mut slot = slot_in(rt, alloc, made)?;
-    let accepted = accept(rt, &mut slot, &image(alloc, 2, 1, 0)?)?;
-    assert_eq!(rt; (accepted, slot.phase()), row.accept);
+    Ok((slot.freeze(), slot.phase()))
+}
+
+fn committed(rt: &impl Abort, alloc: Global, made: Made) -> Result<(Handed, Phase), Fail> {
     let mut slot = slot_in(rt, alloc, made)?;
-    let installed = slot.install(MoveNum::new(1));
-    assert_eq!(rt; (installed, slot.phase()), row.install);
+    Ok((told(&slot.commit(MoveNum::new(1))), slot.phase()))
+}
+
+fn abandoned(rt: &impl Abort, alloc: Global, made: Made) -> Result<(Abandon, Phase), Fail> {
     let mut slot = slot_in(rt, alloc, made)?;
-    let dropped = slot.withdraw(MoveNum::new(1));
-    assert_eq!(rt; (dropped, slot.phase()), row.withdraw);
-    Ok(())
+    Ok((slot.abandon(), slot.phase()))
+}
+
+fn accepted(
+    rt: &impl Abort,
+    alloc: Global,
+    made: Made,
+) -> Result<(Result<Accept, Memory>, Phase), Fail> {
+    let offer = image(alloc, 2, 1, 0)?;
+    let mut slot = slot_in(rt, alloc, made)?;
+    Ok((accept(rt, &mut slot, &offer), slot.phase()))
+}
+
+fn installed(rt: &impl Abort, alloc: Global, made: Made) -> Result<(Install, Phase), Fail> {
+    let mut slot = slot_in(rt, alloc, made)?;
+    Ok((slot.install(MoveNum::new(1)), slot.phase()))
+}
+
+fn withdrawn(rt: &impl Abort, alloc: Global, made: Made) -> Result<(bool, Phase), Fail> {
+    let mut slot = slot_in(rt, alloc, made)?;
+    Ok((slot.withdraw(MoveNum::new(1)), slot.phase()))
 }
 
 fn check(rt: &impl Abort, alloc: Global, made: Made, row: &Row) -> Result<(), Fail> {
-    check_source(rt, alloc, made, row)?;
-    check_destination(rt, alloc, made, row)
+    assert_eq!(rt; begun(rt, alloc, made)?, row.begin);
+    assert_eq!(rt; frozen(rt, alloc, made)?, row.freeze);
+    assert_eq!(rt; committed(rt, alloc, made)?, row.commit);
+    assert_eq!(rt; abandoned(rt, alloc, made)?, row.abandon);
+    assert_eq!(rt; accepted(rt, alloc, made)?, row.accept);
+    assert_eq!(rt; installed(rt, alloc, made)?, row.install);
+    assert_eq!(rt; withdrawn(rt, alloc, made)?, row.withdraw);
+    Ok(())
 }
 
 // The offers of the moves 1 and 2, as phases.
@@ -191,7 +209,7 @@ fn each_call_where_the_state_is_away(rt: HostRuntime) -> Result<(), Fail> {
         freeze: (Freeze::Idle, Phase::Never),
         commit: (Handed::Dead(0), Phase::Never),
         abandon: (Abandon::Idle, Phase::Never),
-        accept: (Accept::Held, incoming(2)),
+        accept: (Ok(Accept::Held), incoming(2)),
         install: (Install::Absent, Phase::Never),
         withdraw: (false, Phase::Never),
     };
@@ -201,7 +219,7 @@ fn each_call_where_the_state_is_away(rt: HostRuntime) -> Result<(), Fail> {
         freeze: (Freeze::Idle, gone),
         commit: (Handed::Again, gone),
         abandon: (Abandon::Late, gone),
-        accept: (Accept::Held, incoming(2)),
+        accept: (Ok(Accept::Held), incoming(2)),
         install: (Install::Absent, gone),
         withdraw: (false, gone),
     };
@@ -211,7 +229,7 @@ fn each_call_where_the_state_is_away(rt: HostRuntime) -> Result<(), Fail> {
         freeze: (Freeze::Idle, incoming(1)),
         commit: (Handed::Dead(1), incoming(1)),
         abandon: (Abandon::Idle, incoming(1)),
-        accept: (Accept::Held, incoming(2)),
+        accept: (Ok(Accept::Held), incoming(2)),
         install: (Install::Now, Phase::Serving),
         withdraw: (true, Phase::Never),
     };
@@ -233,7 +251,7 @@ fn each_call_where_the_state_is_here(rt: HostRuntime) -> Result<(), Fail> {
         freeze: (Freeze::Idle, Phase::Serving),
         commit: (Handed::Dead(0), Phase::Serving),
         abandon: (Abandon::Idle, Phase::Serving),
-        accept: (Accept::Live, Phase::Serving),
+        accept: (Ok(Accept::Live), Phase::Serving),
         install: (Install::Absent, Phase::Serving),
         withdraw: (false, Phase::Serving),
     };
@@ -243,7 +261,7 @@ fn each_call_where_the_state_is_here(rt: HostRuntime) -> Result<(), Fail> {
         freeze: (Freeze::Frozen(number), frozen),
         commit: (Handed::Dead(1), closing),
         abandon: (Abandon::Back(number), Phase::Serving),
-        accept: (Accept::Live, closing),
+        accept: (Ok(Accept::Live), closing),
         install: (Install::Absent, closing),
         withdraw: (false, closing),
     };
@@ -253,7 +271,7 @@ fn each_call_where_the_state_is_here(rt: HostRuntime) -> Result<(), Fail> {
         freeze: (Freeze::Frozen(number), frozen),
         commit: (Handed::Committed(0), gone),
         abandon: (Abandon::Back(number), Phase::Serving),
-        accept: (Accept::Live, frozen),
+        accept: (Ok(Accept::Live), frozen),
         install: (Install::Absent, frozen),
         withdraw: (false, frozen),
     };
@@ -282,29 +300,31 @@ fn door_of(answer: &Enter) -> Door {
     }
 }
 
+fn door_in(rt: &impl Abort, alloc: Global, made: Made) -> Result<Door, Fail> {
+    Ok(door_of(&slot_in(rt, alloc, made)?.enter()))
+}
+
 #[test]
 fn the_door_in_each_phase(rt: HostRuntime) -> Result<(), Fail> {
     let alloc = rt.alloc();
-    let never = slot_in(&rt, alloc, Made::Never)?.enter();
-    assert_eq!(rt; door_of(&never), Door::Unknown);
-    let serving = slot_in(&rt, alloc, Made::Serving)?.enter();
-    assert_eq!(rt; door_of(&serving), Door::Entered { epoch: 0 });
-    let closing = slot_in(&rt, alloc, Made::Closing)?.enter();
-    assert_eq!(rt; door_of(&closing), Door::Delay);
-    let frozen = slot_in(&rt, alloc, Made::Frozen)?.enter();
-    assert_eq!(rt; door_of(&frozen), Door::Delay);
-    let gone = slot_in(&rt, alloc, Made::Gone)?.enter();
-    assert_eq!(rt; door_of(&gone), Door::Moved(1));
-    let incoming = slot_in(&rt, alloc, Made::Incoming)?.enter();
-    assert_eq!(rt; door_of(&incoming), Door::Delay);
+    assert_eq!(rt; door_in(&rt, alloc, Made::Never)?, Door::Unknown);
+    assert_eq!(rt;
+        door_in(&rt, alloc, Made::Serving)?,
+        Door::Entered { epoch: 0 }
+    );
+    assert_eq!(rt; door_in(&rt, alloc, Made::Closing)?, Door::Delay);
+    assert_eq!(rt; door_in(&rt, alloc, Made::Frozen)?, Door::Delay);
+    assert_eq!(rt; door_in(&rt, alloc, Made::Gone)?, Door::Moved(1));
+    assert_eq!(rt; door_in(&rt, alloc, Made::Incoming)?, Door::Delay);
     Ok(())
 }
 
-fn entered(answer: Enter) -> Result<FsPass, Fail> {
-    match answer {
-        Enter::Entered(pass) => Ok(pass),
+// The pass that is given where one may enter.
+fn enter(rt: &impl Abort, slot: &mut Slot) -> FsPass {
+    match slot.enter() {
+        Enter::Entered(pass) => pass,
         Enter::Full { .. } | Enter::Delay | Enter::Moved { .. } | Enter::Unknown => {
-            Err("one may enter".into())
+            panic!(rt; "one may enter")
         }
     }
 }
@@ -312,30 +332,31 @@ fn entered(answer: Enter) -> Result<FsPass, Fail> {
 #[test]
 fn a_move_waits_for_the_passes_that_are_out(rt: HostRuntime) -> Result<(), Fail> {
     let alloc = rt.alloc();
+    let (here, dest) = (server(0)?, server(2)?);
     let mut slot = slot_in(&rt, alloc, Made::Serving)?;
-    let first = entered(slot.enter())?;
-    let second = entered(slot.enter())?;
-    assert_eq!(rt; slot.begin(server(0)?, server(0)?), Begin::Same);
-    assert_eq!(rt;
-        slot.begin(server(0)?, server(2)?),
-        Begin::Begun(MoveNum::new(1))
-    );
+    let first = enter(&rt, &mut slot);
+    let second = enter(&rt, &mut slot);
+    assert_eq!(rt; slot.begin(here, here), Begin::Same);
+    assert_eq!(rt; slot.begin(here, dest), Begin::Begun(MoveNum::new(1)));
     assert_eq!(rt; slot.freeze(), Freeze::Waiting { passes: 2 });
     slot.leave(first);
     assert_eq!(rt; slot.freeze(), Freeze::Waiting { passes: 1 });
-    assert!(rt; slot.image()?.is_none());
     slot.leave(second);
     assert_eq!(rt; slot.freeze(), Freeze::Frozen(MoveNum::new(1)));
-    assert_eq!(rt; slot.abandon(), Abandon::Back(MoveNum::new(1)));
-    // The next move has the next number.
-    assert_eq!(rt;
-        slot.begin(server(0)?, server(1)?),
-        Begin::Begun(MoveNum::new(2))
-    );
-    assert_eq!(rt; slot.freeze(), Freeze::Frozen(MoveNum::new(2)));
-    assert_eq!(rt; told(&slot.commit(MoveNum::new(1))), Handed::Dead(2));
-    assert_eq!(rt; told(&slot.commit(MoveNum::new(2))), Handed::Committed(0));
-    assert_eq!(rt; told(&slot.commit(MoveNum::new(1))), Handed::Dead(2));
+    Ok(())
+}
+
+#[test]
+fn an_old_move_is_dead(rt: HostRuntime) -> Result<(), Fail> {
+    let (one, two) = (MoveNum::new(1), MoveNum::new(2));
+    let (here, dest) = (server(0)?, server(1)?);
+    let mut slot = slot_in(&rt, rt.alloc(), Made::Frozen)?;
+    assert_eq!(rt; slot.abandon(), Abandon::Back(one));
+    assert_eq!(rt; slot.begin(here, dest), Begin::Begun(two));
+    assert_eq!(rt; slot.freeze(), Freeze::Frozen(two));
+    assert_eq!(rt; told(&slot.commit(one)), Handed::Dead(2));
+    assert_eq!(rt; told(&slot.commit(two)), Handed::Committed(0));
+    assert_eq!(rt; told(&slot.commit(one)), Handed::Dead(2));
     Ok(())
 }
 
@@ -374,7 +395,7 @@ enum Called {
     Ended,
 }
 
-fn call(slot: &mut Slot, pass: &FsPass, call: &Call) -> Result<Called, Fail> {
+fn call(slot: &mut Slot, pass: &FsPass, call: &Call) -> Result<Called, Memory> {
     Ok(match slot.apply(pass, None, call, Verdict::Pass)? {
         Answer::Done { place, reply } => Called::Done(place, reply.status),
         Answer::Strayed {
@@ -386,80 +407,119 @@ fn call(slot: &mut Slot, pass: &FsPass, call: &Call) -> Result<Called, Fail> {
     })
 }
 
+fn done(place: u64) -> Result<Called, Memory> {
+    Ok(Called::Done(place, OpStatus::Nfs4Ok))
+}
+
+fn pass(epoch: u64) -> Result<FsPass, Fail> {
+    Ok(FsPass {
+        fs: x()?,
+        epoch: Epoch::new(epoch),
+    })
+}
+
+#[test]
+fn calls_are_made_until_the_freeze(rt: HostRuntime) -> Result<(), Fail> {
+    let alloc = rt.alloc();
+    let (here, dest, pass) = (server(0)?, server(1)?, pass(0)?);
+    let asked = open(alloc, client(b"A")?)?;
+    let mut slot = slot_in(&rt, alloc, Made::Serving)?;
+    assert_eq!(rt; call(&mut slot, &pass, &asked), done(1));
+    assert_eq!(rt; slot.begin(here, dest), Begin::Begun(MoveNum::new(1)));
+    assert_eq!(rt; call(&mut slot, &pass, &asked), done(2));
+    assert_eq!(rt; slot.freeze(), Freeze::Frozen(MoveNum::new(1)));
+    assert_eq!(rt; call(&mut slot, &pass, &asked), Ok(Called::Strayed(0, 0)));
+    Ok(())
+}
+
+// A slot that is frozen for its move 1, in which B and then A have a file open.
+fn opened_and_frozen(rt: &impl Abort, alloc: Global) -> Result<Slot, Fail> {
+    let (here, dest, pass) = (server(0)?, server(1)?, pass(0)?);
+    let first = open(alloc, client(b"B")?)?;
+    let second = open(alloc, client(b"A")?)?;
+    let mut slot = slot_in(rt, alloc, Made::Serving)?;
+    assert_eq!(rt; call(&mut slot, &pass, &first), done(1));
+    assert_eq!(rt; call(&mut slot, &pass, &second), done(2));
+    assert_eq!(rt; slot.begin(here, dest), Begin::Begun(MoveNum::new(1)));
+    assert_eq!(rt; slot.freeze(), Freeze::Frozen(MoveNum::new(1)));
+    Ok(slot)
+}
+
+#[test]
+fn a_commit_lists_who_holds_something(rt: HostRuntime) -> Result<(), Fail> {
+    let (a, b) = (client(b"A")?, client(b"B")?);
+    let mut slot = opened_and_frozen(&rt, rt.alloc())?;
+    match slot.commit(MoveNum::new(1)) {
+        Commit::Committed(holders) => {
+            assert_eq!(rt; holders.len(), 2);
+            assert!(rt; holders[0].is_same(&a));
+            assert!(rt; holders[1].is_same(&b));
+            Ok(())
+        }
+        Commit::Again | Commit::Dead { .. } => panic!(rt; "it is handed over"),
+    }
+}
+
+// How many opens are held in the state that is here, or in the one on offer.
+fn rows(slot: &Slot) -> Result<Option<usize>, Memory> {
+    match slot.table()? {
+        Some(table) => Ok(Some(table.items().len())),
+        None => Ok(None),
+    }
+}
+
+// A slot that holds the offer of a state with two opens, which came twice.
+fn offered(rt: &impl Abort, alloc: Global) -> Result<Slot, Fail> {
+    let source = opened_and_frozen(rt, alloc)?;
+    let mut dest = slot_in(rt, alloc, Made::Never)?;
+    assert_eq!(rt; rows(&dest), Ok(None));
+    assert_eq!(rt; offer(rt, &source, &mut dest), Ok(Accept::Held));
+    assert_eq!(rt; offer(rt, &source, &mut dest), Ok(Accept::Held));
+    assert_eq!(rt; rows(&dest), Ok(Some(2)));
+    Ok(dest)
+}
+
+#[test]
+fn an_offer_is_installed_once(rt: HostRuntime) -> Result<(), Fail> {
+    let one = MoveNum::new(1);
+    let late = image(rt.alloc(), 1, 1, 0)?;
+    let mut slot = offered(&rt, rt.alloc())?;
+    assert_eq!(rt; slot.install(one), Install::Now);
+    assert_eq!(rt; slot.install(one), Install::Already);
+    assert_eq!(rt;
+        accept(&rt, &mut slot, &late),
+        Ok(Accept::Old { known: one })
+    );
+    assert_eq!(rt; rows(&slot), Ok(Some(2)));
+    Ok(())
+}
+
 #[test]
 fn the_state_goes_on_at_the_destination(rt: HostRuntime) -> Result<(), Fail> {
     let alloc = rt.alloc();
-    let (a, b) = (client(b"A")?, client(b"B")?);
-    let mut source = slot_in(&rt, alloc, Made::Serving)?;
-    let mut dest = slot_in(&rt, alloc, Made::Never)?;
-    let pass = entered(source.enter())?;
-    assert_eq!(rt;
-        call(&mut source, &pass, &open(alloc, b)?)?,
-        Called::Done(1, OpStatus::Nfs4Ok)
-    );
-    assert_eq!(rt;
-        source.begin(server(0)?, server(1)?),
-        Begin::Begun(MoveNum::new(1))
-    );
-    // Calls under way are still made.
-    assert_eq!(rt;
-        call(&mut source, &pass, &open(alloc, a)?)?,
-        Called::Done(2, OpStatus::Nfs4Ok)
-    );
-    source.leave(pass);
-    assert_eq!(rt; source.freeze(), Freeze::Frozen(MoveNum::new(1)));
-    assert_eq!(rt; offer(&rt, &source, &mut dest)?, Accept::Held);
-    assert_eq!(rt; offer(&rt, &source, &mut dest)?, Accept::Held);
-    assert_eq!(rt; dest.table()?.ok_or("an offer is held")?.items().len(), 2);
-    match source.commit(MoveNum::new(1)) {
-        Commit::Committed(holders) => {
-            assert_eq!(rt; holders.len(), 2);
-            assert!(rt; holders[0] == a && holders[1] == b);
-        }
-        Commit::Again | Commit::Dead { .. } => return Err("it is handed over".into()),
-    }
-    assert!(rt; source.table()?.is_none());
-    assert_eq!(rt; dest.install(MoveNum::new(1)), Install::Now);
-    assert_eq!(rt; dest.install(MoveNum::new(1)), Install::Already);
-    let late = accept(&rt, &mut dest, &image(alloc, 1, 1, 0)?)?;
-    assert_eq!(rt;
-        late,
-        Accept::Old {
-            known: MoveNum::new(1)
-        }
-    );
-    assert_eq!(rt; (dest.epoch().number(), dest.count()), (1, 2));
-    let pass = entered(dest.enter())?;
-    assert_eq!(rt;
-        call(&mut dest, &pass, &open(alloc, a)?)?,
-        Called::Done(3, OpStatus::Nfs4Ok)
-    );
-    assert_eq!(rt;
-        call(&mut source, &pass, &open(alloc, a)?)?,
-        Called::Strayed(1, 0)
-    );
+    let (old, new) = (pass(0)?, pass(1)?);
+    let asked = open(alloc, client(b"A")?)?;
+    let mut slot = offered(&rt, alloc)?;
+    assert_eq!(rt; slot.install(MoveNum::new(1)), Install::Now);
+    assert_eq!(rt; (slot.epoch().number(), slot.count()), (1, 2));
+    assert_eq!(rt; call(&mut slot, &old, &asked), Ok(Called::Strayed(0, 1)));
+    assert_eq!(rt; call(&mut slot, &new, &asked), done(3));
     Ok(())
 }
 
 #[test]
 fn a_withdrawn_number_is_known(rt: HostRuntime) -> Result<(), Fail> {
     let alloc = rt.alloc();
+    let known = MoveNum::new(5);
+    let (lower, higher) = (image(alloc, 4, 1, 0)?, image(alloc, 6, 1, 0)?);
     let mut slot = slot_in(&rt, alloc, Made::Never)?;
-    assert!(rt; !slot.withdraw(MoveNum::new(5)));
+    assert!(rt; !slot.withdraw(known));
     assert_eq!(rt; slot.known().number(), 5);
-    let old = accept(&rt, &mut slot, &image(alloc, 4, 1, 0)?)?;
-    assert_eq!(rt;
-        old,
-        Accept::Old {
-            known: MoveNum::new(5)
-        }
-    );
-    let new = accept(&rt, &mut slot, &image(alloc, 6, 1, 0)?)?;
-    assert_eq!(rt; new, Accept::Held);
+    assert_eq!(rt; accept(&rt, &mut slot, &lower), Ok(Accept::Old { known }));
+    assert_eq!(rt; accept(&rt, &mut slot, &higher), Ok(Accept::Held));
     // A late word of a lower move drops nothing, and lowers nothing.
-    assert!(rt; !slot.withdraw(MoveNum::new(5)));
-    assert_eq!(rt; slot.phase(), incoming(6));
-    assert_eq!(rt; slot.known().number(), 6);
+    assert!(rt; !slot.withdraw(known));
+    assert_eq!(rt; (slot.phase(), slot.known().number()), (incoming(6), 6));
     Ok(())
 }
 
@@ -475,42 +535,56 @@ fn moved_here(
     requires epoch { epoch ≤ 2 ^ 63 }
     requires count { count ≤ 2 ^ 63 }
 {
+    let offer = image(alloc, number, epoch, count)?;
     let mut slot = Slot::new(alloc, x()?, None)?;
-    let accepted = accept(rt, &mut slot, &image(alloc, number, epoch, count)?)?;
-    assert_eq!(rt; accepted, Accept::Held);
+    assert_eq!(rt; accept(rt, &mut slot, &offer), Ok(Accept::Held));
     assert_eq!(rt; slot.install(MoveNum::new(number)), Install::Now);
     Ok(slot)
 }
 
-#[test]
-fn numbers_end_at_their_last(rt: HostRuntime) -> Result<(), Fail> {
-    let alloc = rt.alloc();
+fn begun_after(
+    rt: &impl Abort,
+    alloc: Global,
+    number: u64,
+    epoch: u64,
+    count: u64,
+) -> Result<Begin, Fail>
+    requires number { number ≤ 2 ^ 63 }
+    requires epoch { epoch ≤ 2 ^ 63 }
+    requires count { count ≤ 2 ^ 63 }
+{
     let (here, dest) = (server(0)?, server(1)?);
-    let mut by_number = moved_here(&rt, alloc, END, 1, 0)?;
-    assert_eq!(rt; by_number.begin(here, dest), Begin::Last);
-    let mut last_number = moved_here(&rt, alloc, END - 1, 1, 0)?;
+    Ok(moved_here(rt, alloc, number, epoch, count)?.begin(here, dest))
+}
+
+#[test]
+fn a_move_needs_next_numbers(rt: HostRuntime) -> Result<(), Fail> {
+    let alloc = rt.alloc();
+    assert_eq!(rt; begun_after(&rt, alloc, END, 1, 0)?, Begin::Last);
     assert_eq!(rt;
-        last_number.begin(here, dest),
+        begun_after(&rt, alloc, END - 1, 1, 0)?,
         Begin::Begun(MoveNum::new(END))
     );
-    let mut by_epoch = moved_here(&rt, alloc, 1, END, 0)?;
-    assert_eq!(rt; by_epoch.begin(here, dest), Begin::Last);
-    let mut last_count = moved_here(&rt, alloc, 1, 1, END)?;
-    let pass = entered(last_count.enter())?;
-    let a = client(b"A")?;
+    assert_eq!(rt; begun_after(&rt, alloc, 1, END, 0)?, Begin::Last);
     assert_eq!(rt;
-        call(&mut last_count, &pass, &open(alloc, a)?)?,
-        Called::Last(END)
+        begun_after(&rt, alloc, 1, END - 1, 0)?,
+        Begin::Begun(MoveNum::new(2))
     );
-    assert_eq!(rt; last_count.begin(here, dest), Begin::Begun(MoveNum::new(2)));
+    assert_eq!(rt;
+        begun_after(&rt, alloc, 1, 1, END)?,
+        Begin::Begun(MoveNum::new(2))
+    );
+    Ok(())
+}
+
+#[test]
+fn the_last_entry_leaves_room_for_ends(rt: HostRuntime) -> Result<(), Fail> {
+    let alloc = rt.alloc();
     let few = END - (1 << 17);
-    let mut full = moved_here(&rt, alloc, 1, 1, few - 1)?;
-    let pass = entered(full.enter())?;
-    let last = call(&mut full, &pass, &open(alloc, a)?)?;
-    assert_eq!(rt; last, Called::Done(few, OpStatus::Nfs4Ok));
-    assert_eq!(rt;
-        call(&mut full, &pass, &open(alloc, a)?)?,
-        Called::Last(few)
-    );
+    let pass = pass(1)?;
+    let asked = open(alloc, client(b"A")?)?;
+    let mut slot = moved_here(&rt, alloc, 1, 1, few - 1)?;
+    assert_eq!(rt; call(&mut slot, &pass, &asked), done(few));
+    assert_eq!(rt; call(&mut slot, &pass, &asked), Ok(Called::Last(few)));
     Ok(())
 }
