@@ -90,15 +90,11 @@ fn worked_scripts_print_their_texts(rt: HostRuntime) -> Result<(), Fail> {
 const TWO_SERVERS: &str =
     "nfsmove 1\nlease 90\nserver S1\nserver S2\nfs X at S1\nclient C1 7\nclient C2 9\n";
 
-// Runs the lines behind that head, and compares what they print.
-fn prints(rt: HostRuntime, lines: &str, text: &str) -> Result<(), Fail> {
-    let alloc = rt.alloc();
+// What `replay` does with the lines behind that head.
+fn run_lines(alloc: Global, lines: &str) -> Result<Came, Fail> {
     let mut script = TWO_SERVERS.to_string(alloc)?;
     script.push_str(lines)?;
-    let came = run(alloc, &["replay"], script.as_bytes(), &[], &[])?;
-    assert_eq!(rt; came.status, Status::Done);
-    assert_eq!(rt; came.written.as_slice(), text.as_bytes());
-    Ok(())
+    run(alloc, &["replay"], script.as_bytes(), &[], &[])
 }
 
 #[test]
@@ -121,7 +117,10 @@ X closing S1 S2 move 1
 X busy 1
 X back S1
 ";
-    prints(rt, lines, text)
+    let came = run_lines(rt.alloc(), lines)?;
+    assert_eq!(rt; came.status, Status::Done);
+    assert_eq!(rt; came.written.as_slice(), text.as_bytes());
+    Ok(())
 }
 
 #[test]
@@ -144,7 +143,10 @@ X at S2
 X refused OLD 1
 X idle
 ";
-    prints(rt, lines, text)
+    let came = run_lines(rt.alloc(), lines)?;
+    assert_eq!(rt; came.status, Status::Done);
+    assert_eq!(rt; came.written.as_slice(), text.as_bytes());
+    Ok(())
 }
 
 #[test]
@@ -165,7 +167,10 @@ C1 create DELAY
 X back S1
 C1 create OK
 ";
-    prints(rt, lines, text)
+    let came = run_lines(rt.alloc(), lines)?;
+    assert_eq!(rt; came.status, Status::Done);
+    assert_eq!(rt; came.written.as_slice(), text.as_bytes());
+    Ok(())
 }
 
 #[test]
@@ -184,7 +189,10 @@ X late S1
 X at S2
 X at S2
 ";
-    prints(rt, lines, text)
+    let came = run_lines(rt.alloc(), lines)?;
+    assert_eq!(rt; came.status, Status::Done);
+    assert_eq!(rt; came.written.as_slice(), text.as_bytes());
+    Ok(())
 }
 
 #[test]
@@ -207,7 +215,10 @@ X at S2
 C1 close OK
 X at S2
 ";
-    prints(rt, lines, text)
+    let came = run_lines(rt.alloc(), lines)?;
+    assert_eq!(rt; came.status, Status::Done);
+    assert_eq!(rt; came.written.as_slice(), text.as_bytes());
+    Ok(())
 }
 
 #[test]

@@ -1,5 +1,7 @@
 //! The run of a script without messages between client and server: each call reaches a server at once, and its reply the
 //! client. What the servers of a move send one another waits for the lines that deliver it.
+//!
+//! The layer above may rely on `text_of_run`: its text is that of the run over each file system's list of steps.
 #![tactic(auto)]
 
 mod asks;
@@ -10,6 +12,8 @@ mod names;
 mod orders;
 mod run;
 mod slots;
+#[cfg(test)]
+mod tests;
 
-pub use laws::{runs_are_accounted_for, tables_tell_the_run};
+pub use laws::one_server_has_each_file_system;
 pub use run::{Run, text_of_run};

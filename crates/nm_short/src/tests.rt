@@ -1,0 +1,203 @@
+//! Runs of scripts whose outcomes the rules of moves give.
+ghost use Rattle.std.specs.Prelude.{◌≡◌, ◌<◌, ◌≤◌, length};
+ghost use Rattle.nm_script.specs.Grammar.{IsWellFormed};
+
+use crate::{Run, text_of_run};
+use nm_rules::{Epoch, FsNum, Memory, MoveNum, ServerNum};
+use nm_script::{Script, read_script};
+use nm_slot::Phase;
+use std::alloc::Global;
+use std::test::Fail;
+
+const HEAD: &str = "nfsmove 1
+lease 90
+server S1
+server S2
+server S3
+fs X at S1
+fs Y at S2
+client C1 7
+client C2 9
+";
+
+// What these lines print behind that head; nothing where they are no script.
+fn text_of_lines(alloc: Global, lines: &str) -> Result<Vec<u8>, Fail> {
+    let mut text = HEAD.to_string(alloc)?;
+    text.push_str(lines)?;
+    match read_script(alloc, text.as_bytes()) {
+        Ok(script) => Ok(text_of_run(alloc, &script)?),
+        Err(_) => Ok(Vec::new(alloc)),
+    }
+}
+
+#[test]
+fn file_systems_move_apart_from_one_another(rt: HostRuntime) -> Result<(), Fail> {
+    let lines = "do C1 create X f rw none o
+do C1 create Y g r w o
+shift X S3
+show X
+show Y
+do C1 close X f o
+show X
+show Y
+";
+    let text = "C1 create OK
+C1 create OK
+X closing S1 S3 move 1
+X frozen S1 S3 move 1
+X passing S1 S3 move 1
+X at S3
+X at S3
+  open f C1/o rw none
+Y at S2
+  open g C1/o r w
+C1 close OK
+X at S3
+Y at S2
+  open g C1/o r w
+";
+    assert_eq!(rt;
+        text_of_lines(rt.alloc(), lines)?.as_slice(),
+        text.as_bytes()
+    );
+    Ok(())
+}
+
+// C1 knocks at S1, which sends it to S2, and that to S3.
+#[test]
+fn a_client_follows_two_moves(rt: HostRuntime) -> Result<(), Fail> {
+    let lines = "do C1 create X f r none o
+shift X S2
+shift X S3
+do C1 close X f o
+do C2 open X f w none p
+shift X S3
+";
+    let text = "C1 create OK
+X closing S1 S2 move 1
+X frozen S1 S2 move 1
+X passing S1 S2 move 1
+X at S2
+X closing S2 S3 move 2
+X frozen S2 S3 move 2
+X passing S2 S3 move 2
+X at S3
+C1 close OK
+C2 open OK
+X same
+";
+    assert_eq!(rt;
+        text_of_lines(rt.alloc(), lines)?.as_slice(),
+        text.as_bytes()
+    );
+    Ok(())
+}
+
+#[test]
+fn a_client_does_one_thing_at_a_time(rt: HostRuntime) -> Result<(), Fail> {
+    let lines = "do C1 finish
+move X S2
+do C1 create X f r none o
+do C1 create Y g r none o
+do C2 create Y g r none o
+freeze X
+commit X
+do C1 finish
+settle X
+do C1 finish
+do C1 finish
+";
+    let text = "C1 idle
+X closing S1 S2 move 1
+C1 create DELAY
+C1 create BUSY
+C2 create OK
+X frozen S1 S2 move 1
+X passing S1 S2 move 1
+C1 create DELAY
+X at S2
+C1 create OK
+C1 idle
+";
+    assert_eq!(rt;
+        text_of_lines(rt.alloc(), lines)?.as_slice(),
+        text.as_bytes()
+    );
+    Ok(())
+}
+
+// The file system X.
+fn first_fs() -> FsNum
+    ensures { result ≡ 0 }
+{
+    match FsNum::new(0) {
+        Some(fs) => fs,
+        None => unreachable!(),
+    }
+}
+
+// A server of that number.
+fn server(n: u32) -> ServerNum
+    requires { n < 16 }
+    ensures { result ≡ n }
+{
+    match ServerNum::new(n) {
+        Some(server) => server,
+        None => unreachable!(),
+    }
+}
+
+// What S1 and S2 do with X after each line.
+#[tactic(auto, using(crate::proofs::FileFirst::clients_are_short))]
+fn phases_of(alloc: Global, script: &Script) -> Result<Vec<[Option<Phase>; 2]>, Memory>
+    requires formed { IsWellFormed script.now }
+    requires few { length script.now.head.file_systems ≤ 64 }
+{
+    let mut run = Run::new(alloc, &script.head)?;
+    let mut phases = Vec::new(alloc);
+    for line in script.lines.items() {
+        run.line(&script.head, line)?;
+        phases.push([
+            run.phase_at(first_fs(), server(0)),
+            run.phase_at(first_fs(), server(1)),
+        ])?;
+    }
+    Ok(phases)
+}
+
+// The phases behind the head for these lines; nothing where they are no script.
+fn phases_of_lines(alloc: Global, lines: &str) -> Result<Vec<[Option<Phase>; 2]>, Fail> {
+    let mut text = HEAD.to_string(alloc)?;
+    text.push_str(lines)?;
+    match read_script(alloc, text.as_bytes()) {
+        Ok(script) => Ok(phases_of(alloc, &script)?),
+        Err(_) => Ok(Vec::new(alloc)),
+    }
+}
+
+// Before the commit S1 has the state, and after the settle S2. Between them none does.
+#[test]
+fn one_server_has_it_after_each_step(rt: HostRuntime) -> Result<(), Fail> {
+    let lines = "move X S2\nfreeze X\ncommit X\nsettle X\n";
+    let dest = server(1);
+    let number = MoveNum::new(1);
+    let gone = Phase::Gone {
+        dest,
+        epoch: Epoch::new(0),
+    };
+    let incoming = Phase::Incoming {
+        epoch: Epoch::new(1),
+        number,
+    };
+    let wanted = [
+        [Some(Phase::Closing { dest, number }), Some(Phase::Never)],
+        [Some(Phase::Frozen { dest, number }), Some(Phase::Never)],
+        [Some(gone), Some(incoming)],
+        [Some(gone), Some(Phase::Serving)],
+    ];
+    assert_eq!(rt;
+        phases_of_lines(rt.alloc(), lines)?.as_slice(),
+        wanted.as_slice()
+    );
+    Ok(())
+}
