@@ -132,8 +132,8 @@ fn attributes_are_written_behind_their_bitmap(rt: HostRuntime) -> Result<(), Fai
     writer.put_u32(7)?;
     write_fattr(alloc, &size_and_mode(alloc)?, &mut writer)?;
     let want = [
-        0, 0, 0, 7, 0, 0, 0, 2, 0, 0, 0, 0x10, 0, 0, 0, 2, 0, 0, 0, 12, 0, 0, 0, 0, 0, 0, 0, 5, 0, 0,
-        1, 0xa4,
+        0, 0, 0, 7, 0, 0, 0, 2, 0, 0, 0, 0x10, 0, 0, 0, 2, 0, 0, 0, 12, 0, 0, 0, 0, 0, 0, 0, 5, 0,
+        0, 1, 0xa4,
     ];
     assert_eq!(rt; writer.finish().as_slice(), want.as_slice());
     Ok(())
