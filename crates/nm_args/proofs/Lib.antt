@@ -1,1 +1,4 @@
+pub mod LoopLaws
+pub mod OpenItems
+pub mod PartItems
 pub mod PartLaws

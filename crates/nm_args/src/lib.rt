@@ -2,14 +2,21 @@
 #![tactic(auto)]
 
 mod clients;
+mod compound;
 mod data;
 mod locks;
 mod names;
 mod op;
 mod opens;
+mod operations;
 mod parts;
+mod reading;
+mod writing;
 
+pub use compound::{ArgsFault, Compound, CompoundEnd};
 pub use op::{
     Op, OpCode, Ops, OwnedLock, OwnedLockTest, OwnedLocker, OwnedOpen, OwnedRelease, RenameArgs,
     SetClientIdArgs, SetClientIdConfirmArgs,
 };
+pub use reading::read_compound;
+pub use writing::write_compound;
