@@ -1,3 +1,5 @@
+pub mod DataItems
+pub mod LockItems
 pub mod LoopLaws
 pub mod OpenItems
 pub mod PartItems

@@ -2,6 +2,7 @@
 use Rattle.std.specs.Prelude.{◌≡◌, ℕ, Bool, true, false, List, [], ◌∷◌, ◌++◌}
 use Rattle.nm_xdr.specs.Fields.{Reading, field, made}
 use Rattle.nm_xdr.specs.Items.{word, hyper, flag, opaque, structure, union, word_at, hyper_at, flag_at}
+use Rattle.nm_rules.specs.declared.calls.StateRef.{StateRef}
 use Rattle.nm_rules.specs.declared.args.Locker.{Locker}
 use Rattle.nm_rules.specs.declared.args.Locker.TheVariants.{New, Known}
 use Rattle.nm_rules.specs.declared.args.LockArgs.{LockArgs}
@@ -21,26 +22,56 @@ abbrev pub is_new : Locker → Bool
 is_new (New open_seqid stateid lock_seqid owner) = true
 is_new (Known stateid lock_seqid) = false
 
--- open_to_lock_owner4 or exist_lock_owner4
+-- open_to_lock_owner4: what a new owner gives
+pub record NewOwner : Type 0 where
+  pub open_seqid : ℕ
+  pub stateid : StateRef
+  pub lock_seqid : ℕ
+  pub clientid : ℕ
+  pub owner : List ℕ
+
+abbrev pub new_owner : NewOwner → List ℕ
+new_owner n = structure (word n.open_seqid ∷ stateid_bytes n.stateid ∷ word n.lock_seqid ∷ hyper n.clientid ∷ opaque n.owner ∷ [])
+
+unfoldable pub new_owner_at : Reading NewOwner
+new_owner_at =
+    field word_at (λ open_seqid. field stateid_at (λ stateid. field word_at (λ lock_seqid. field hyper_at (λ clientid. field text_at (λ owner.
+    made (record { open_seqid = open_seqid; stateid = stateid; lock_seqid = lock_seqid; clientid = clientid; owner = owner }))))))
+
+-- exist_lock_owner4: what a known owner gives
+pub record KnownOwner : Type 0 where
+  pub stateid : StateRef
+  pub lock_seqid : ℕ
+
+abbrev pub known_owner : KnownOwner → List ℕ
+known_owner k = structure (stateid_bytes k.stateid ∷ word k.lock_seqid ∷ [])
+
+unfoldable pub known_owner_at : Reading KnownOwner
+known_owner_at = field stateid_at (λ stateid. field word_at (λ lock_seqid. made (record { stateid = stateid; lock_seqid = lock_seqid })))
+
 abbrev pub locker_arm : ℕ → Locker → List ℕ
 locker_arm clientid (New open_seqid stateid lock_seqid owner) =
-    structure (word open_seqid ∷ stateid_bytes stateid ∷ word lock_seqid ∷ hyper clientid ∷ opaque owner ∷ [])
-locker_arm clientid (Known stateid lock_seqid) = structure (stateid_bytes stateid ∷ word lock_seqid ∷ [])
+    new_owner (record { open_seqid = open_seqid; stateid = stateid; lock_seqid = lock_seqid; clientid = clientid; owner = owner })
+locker_arm clientid (Known stateid lock_seqid) = known_owner (record { stateid = stateid; lock_seqid = lock_seqid })
 
 -- locker4: whether the owner is new, and what it gives
 unfoldable pub locker : OwnedLocker → List ℕ
 locker l = union (flag (is_new l.locker)) (locker_arm l.clientid l.locker)
 
+-- where the owner isn't new, no clientid is given, and 0 stands for it
+abbrev pub of_new : NewOwner → OwnedLocker
+of_new n = record { clientid = n.clientid; locker = New n.open_seqid n.stateid n.lock_seqid n.owner }
+
+abbrev pub of_known : KnownOwner → OwnedLocker
+of_known k = record { clientid = 0; locker = Known k.stateid k.lock_seqid }
+
 unfoldable pub locker_arm_at : Bool → Reading OwnedLocker
-locker_arm_at true =
-    field word_at (λ open_seqid. field stateid_at (λ stateid. field word_at (λ lock_seqid. field hyper_at (λ clientid. field text_at (λ owner.
-    made (record { clientid = clientid; locker = New open_seqid stateid lock_seqid owner }))))))
-locker_arm_at false = field stateid_at (λ stateid. field word_at (λ lock_seqid. made (record { clientid = 0; locker = Known stateid lock_seqid })))
+locker_arm_at true = field new_owner_at (λ n. made (of_new n))
+locker_arm_at false = field known_owner_at (λ k. made (of_known k))
 
 unfoldable pub locker_at : Reading OwnedLocker
 locker_at = field flag_at locker_arm_at
 
--- where the owner isn't new, no clientid is given, and 0 stands for it
 abbrev pub IsLocker : ℕ → Locker → Type 0
 IsLocker clientid (New open_seqid stateid lock_seqid owner) = IsWord open_seqid × IsStateRef stateid × IsWord lock_seqid × IsHyper clientid × IsText owner
 IsLocker clientid (Known stateid lock_seqid) = IsStateRef stateid × IsWord lock_seqid × (clientid ≡ 0)

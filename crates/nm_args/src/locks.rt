@@ -56,7 +56,7 @@ fn take_locker(alloc: Global, cursor: &mut Cursor<'_>) -> Result<OwnedLocker, Re
     }
 }
 
-#[tactic(auto, unfolding(crate::specs::Locks::locker_arm_at))]
+#[tactic(auto, unfolding(crate::specs::Locks::locker_arm_at, crate::specs::Locks::new_owner_at))]
 fn take_new_locker(alloc: Global, cursor: &mut Cursor<'_>) -> Result<OwnedLocker, ReadFault>
     ensures { Takes (locker_arm_at true) cursor.old result cursor.new }
 {
@@ -76,7 +76,7 @@ fn take_new_locker(alloc: Global, cursor: &mut Cursor<'_>) -> Result<OwnedLocker
     })
 }
 
-#[tactic(auto, unfolding(crate::specs::Locks::locker_arm_at))]
+#[tactic(auto, unfolding(crate::specs::Locks::locker_arm_at, crate::specs::Locks::known_owner_at))]
 fn take_known_locker(cursor: &mut Cursor<'_>) -> Result<OwnedLocker, ReadFault>
     ensures { Takes (locker_arm_at false) cursor.old result cursor.new }
 {
