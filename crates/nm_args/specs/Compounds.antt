@@ -1,5 +1,6 @@
 -- The arguments of COMPOUND (RFC 7530, 15.2; RFC 7531, COMPOUND4args): their layout, and what is read of any bytes.
 use Rattle.std.specs.Prelude.{◌≡◌, ◌≢◌, ℕ, zero, suc, ◌+◌, ◌≤◌, ◌<◌, Bool, ◌==◌, not, nat_lt, List, [], ◌∷◌, ◌++◌, length, All, Option, Some, None, Result, Ok, Err, if◌then◌else◌}
+use Rattle.std.specs.List.{flat_map}
 use Rattle.nm_xdr.specs.declared.fault.XdrFault.{XdrFault}
 use Rattle.nm_xdr.specs.Fields.{Fault, Reading, ◌>>=◌, ended}
 use Rattle.nm_xdr.specs.Items.{word, opaque, counted, structure, word_at}
@@ -106,3 +107,46 @@ IsRefused total fault.Memory given = Unit {0}
 abbrev pub Answers : {X : Type 0} → Result X ArgsFault → ℕ → Result X Fault → Type 0
 Answers (Ok x) total given = given ≡ Ok x
 Answers (Err e) total given = IsRefused total e given
+
+-- ---- What the arguments of a compound are, apart from how they are read
+
+-- No beginning of these bytes spells the arguments of the operation.
+abbrev pub NoArgs : OpCode → List ℕ → Type 0
+NoArgs code bytes = (o : Op) (rest : List ℕ) → code_of o ≡ code → IsOp o → bytes ≢ args o ++ rest
+
+-- What stands behind some operations that were read, of so many that were announced, where they end so: nothing behind the last of all;
+-- a number and bytes of which no beginning is its arguments; or a number that no operation has, and any bytes.
+abbrev pub IsBehind : CompoundEnd → ℕ → ℕ → List ℕ → Type 0
+IsBehind Clean count read bytes = (read ≡ count) × (bytes ≡ [])
+IsBehind Minor count read bytes = ⊥
+IsBehind (TooMany n) count read bytes = ⊥
+IsBehind (BadXdr n) count read bytes =
+    (read < count) × ((code : OpCode) × (behind : List ℕ) × (code_of_number n ≡ Some code) × (bytes ≡ word n ++ behind) × NoArgs code behind)
+IsBehind (Illegal n) count read bytes = (read < count) × IsWord n × (code_of_number n ≡ None) × ((behind : List ℕ) × (bytes ≡ word n ++ behind))
+
+-- the operations of a compound that isn't refused by its minor version or its count
+pub record EndsAfter (c : Compound) (count : ℕ) (bytes : List ℕ) : Type 0 where
+  pub minor : c.minor ≡ 0
+  pub few : count ≤ 64
+  pub behind : List ℕ
+  pub spelled : bytes ≡ flat_map operation c.ops ++ behind
+  pub fits : All IsOp c.ops
+  pub ends : IsBehind c.end count (length c.ops) behind
+
+-- how a compound ends, by what stands behind its count
+abbrev pub HasEnd : CompoundEnd → Compound → ℕ → List ℕ → Type 0
+HasEnd Minor c count bytes = (c.minor ≢ 0) × (c.ops ≡ [])
+HasEnd (TooMany n) c count bytes = (c.minor ≡ 0) × (64 < count) × (n ≡ count) × (c.ops ≡ [])
+HasEnd Clean c count bytes = EndsAfter c count bytes
+HasEnd (BadXdr n) c count bytes = EndsAfter c count bytes
+HasEnd (Illegal n) c count bytes = EndsAfter c count bytes
+
+-- These bytes are the arguments of this compound.
+pub record IsCompound (c : Compound) (bytes : List ℕ) : Type 0 where
+  pub count : ℕ
+  pub behind : List ℕ
+  pub tag : IsText c.tag
+  pub minor : IsWord c.minor
+  pub counts : IsWord count
+  pub spelled : bytes ≡ opaque c.tag ++ (word c.minor ++ (word count ++ behind))
+  pub ends : HasEnd c.end c count behind

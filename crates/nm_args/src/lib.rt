@@ -4,6 +4,7 @@
 mod clients;
 mod compound;
 mod data;
+mod laws;
 mod locks;
 mod names;
 mod op;
@@ -14,6 +15,9 @@ mod reading;
 mod writing;
 
 pub use compound::{ArgsFault, Compound, CompoundEnd};
+pub use laws::{
+    arguments_are_read_as_spelled, compounds_are_read_as_spelled, compounds_are_read_as_written,
+};
 pub use op::{
     Op, OpCode, Ops, OwnedLock, OwnedLockTest, OwnedLocker, OwnedOpen, OwnedRelease, RenameArgs,
     SetClientIdArgs, SetClientIdConfirmArgs,
