@@ -197,9 +197,10 @@ stateid_found bytes x rest fits e =
     stateid_written a.0.0 b.0.0 q.1 other_fits ∙ ap (λ (w : List ℕ). w ++ b.0.0) (same_word a.0.0) in
     let spelt : bytes ≡ stateid_bytes (stateid_of a.0.0 b.0.0) ++ b.0.1 =
     p.0 ∙ ap (λ (r : List ℕ). word a.0.0 ++ r) (q.0 ∙ ap (λ (o : List ℕ). o ++ b.0.1) whole) ∙ sym (append_assoc (word a.0.0) b.0.0 b.0.1)
-    ∙ ap (λ (w : List ℕ). w ++ b.0.1) (sym written) in
-    (spelt ∙ ap (λ (y : StateRef). stateid_bytes y ++ b.0.1) same.0 ∙ ap (λ (r : List ℕ). stateid_bytes x ++ r) same.1,
-    subst IsStateRef same.0 (read_fits a.0.0 b.0.0 p.1 other_fits))
+    ∙ ap (λ (w : List ℕ). w ++ b.0.1) (sym written) in (
+      spelt ∙ ap (λ (y : StateRef). stateid_bytes y ++ b.0.1) same.0 ∙ ap (λ (r : List ℕ). stateid_bytes x ++ r) same.1,
+      subst IsStateRef same.0 (read_fits a.0.0 b.0.0 p.1 other_fits),
+    )
 
 stateid_again : (x : StateRef) (rest : List ℕ) → IsStateRef x → stateid_at (stateid_bytes x ++ rest) ≡ Ok (x, rest)
 unfolding stateid_at

@@ -169,3 +169,18 @@ compound_written c w =
     (word_item.again c.minor (word (length c.ops) ++ (ops ++ [])) minor_small)
     ∙ ap (λ (r : Result (ℕ × List ℕ) Fault). r >>= λ count. judged c.tag c.minor count.0 count.1) (word_item.again (length c.ops) (ops ++ []) small)
     ∙ judged_so
+
+-- What was read to a clean end can be written.
+clean_writes : (c : Compound) (bytes : List ℕ) (end : CompoundEnd) → c.end ≡ end → end ≡ Clean → IsCompound c bytes → (count : ℕ) (behind : List ℕ) → HasEnd end c count behind → CanBeWritten c
+clean_writes c bytes Clean is e i count behind h =
+    let all : IsBehind Clean count (length c.ops) h.behind = subst (λ (x : CompoundEnd). IsBehind x count (length c.ops) h.behind) is h.ends in
+    record { clean = is; minor = h.minor; few = omega (arith, all.0, h.few); tag = i.tag; ops = h.fits }
+clean_writes c bytes Minor is e i count behind h = absurd cc
+clean_writes c bytes (TooMany n) is e i count behind h = absurd cc
+clean_writes c bytes (BadXdr n) is e i count behind h = absurd cc
+clean_writes c bytes (Illegal n) is e i count behind h = absurd cc
+
+pub compound_clean : (bytes : List ℕ) (c : Compound) → IsBytes bytes → compound_of bytes ≡ Ok c → c.end ≡ Clean → CanBeWritten c
+compound_clean bytes c fits e clean =
+    let i = compound_found bytes c fits e in
+    clean_writes c bytes c.end refl clean i i.count i.behind i.ends

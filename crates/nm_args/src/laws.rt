@@ -4,6 +4,7 @@ ghost use Rattle.nm_xdr.specs.Fields.{IsBytes, IsItem};
 ghost use Rattle.nm_xdr.specs.Places.{IsExact};
 ghost use Rattle.nm_rules.specs.Wire.{stateid_bytes};
 ghost use Rattle.nm_args.specs.declared.compound.Compound.{Compound as AnyCompound};
+ghost use Rattle.nm_args.specs.declared.compound.CompoundEnd.TheVariants.{Clean};
 ghost use Rattle.nm_args.specs.declared.op.OpCode.{OpCode as AnyCode};
 ghost use Rattle.nm_args.specs.Parts.{stateid_at, IsStateRef};
 ghost use Rattle.nm_args.specs.Operations.{code_of, args_at, args, IsOp};
@@ -28,4 +29,9 @@ pub fn compounds_are_read_as_spelled()
 /// A compound that is written is read again.
 pub fn compounds_are_read_as_written()
     ensures { (c : AnyCompound) → CanBeWritten c → compound_of (compound c) ≡ Ok c }
+{}
+
+/// A compound that was read to a clean end can be written again.
+pub fn clean_compounds_can_be_written()
+    ensures { (bytes : List ℕ) (c : AnyCompound) → IsBytes bytes → compound_of bytes ≡ Ok c → c.end ≡ Clean → CanBeWritten c }
 {}

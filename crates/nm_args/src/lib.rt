@@ -12,11 +12,16 @@ mod opens;
 mod operations;
 mod parts;
 mod reading;
+#[cfg(test)]
+mod tests;
+#[cfg(test)]
+mod vectors;
 mod writing;
 
 pub use compound::{ArgsFault, Compound, CompoundEnd};
 pub use laws::{
-    arguments_are_read_as_spelled, compounds_are_read_as_spelled, compounds_are_read_as_written,
+    arguments_are_read_as_spelled, clean_compounds_can_be_written, compounds_are_read_as_spelled,
+    compounds_are_read_as_written,
 };
 pub use op::{
     Op, OpCode, Ops, OwnedLock, OwnedLockTest, OwnedLocker, OwnedOpen, OwnedRelease, RenameArgs,

@@ -3,9 +3,10 @@ ghost use Rattle.std.specs.Prelude.{◌≡◌};
 ghost use Rattle.nm_args.specs.Operations.{number_of, code_of_number, code_of};
 
 use nm_rules::{
-    AccessArgs, Bytes, CloseArgs, CommitArgs, CreateArgs, DelegReturnArgs, Fattr, GetAttrArgs, Items, LockArgs,
-    LockTestArgs, Locker, LookupArgs, OpenConfirmArgs, OpenDowngradeArgs, ReadArgs, ReadDirArgs,
-    ReleaseLockOwnerArgs, RemoveArgs, SetAttrArgs, UnlockArgs, WireOpenArgs, WriteArgs,
+    AccessArgs, Bytes, CloseArgs, CommitArgs, CreateArgs, DelegReturnArgs, Fattr, GetAttrArgs,
+    Items, LockArgs, LockTestArgs, Locker, LookupArgs, OpenConfirmArgs, OpenDowngradeArgs,
+    ReadArgs, ReadDirArgs, ReleaseLockOwnerArgs, RemoveArgs, SetAttrArgs, UnlockArgs, WireOpenArgs,
+    WriteArgs,
 };
 
 /// OPEN's arguments, and the clientid of its owner.

@@ -6,9 +6,7 @@ ghost use Rattle.nm_attrs.specs.Takes.{Takes};
 ghost use Rattle.nm_args.specs.Opens.{close, close_at, IsClose, mode_of, making_of, made_how, made_how_at, how_at, open_type, open_type_at, IsOpenType, claiming_of, claimed, claimed_at, claim, claim_at, IsClaim, opening, opening_at, IsOpening, confirm, confirm_at, IsConfirm, downgrade, downgrade_at, IsDowngrade};
 
 use crate::OwnedOpen;
-use crate::parts::{
-    put_fattr, put_stateid, take_fattr, take_name, take_stateid, take_text,
-};
+use crate::parts::{put_fattr, put_stateid, take_fattr, take_name, take_stateid, take_text};
 use nm_attrs::ReadFault;
 use nm_rules::{Claim, CloseArgs, OpenConfirmArgs, OpenDowngradeArgs, OpenType, WireOpenArgs};
 use nm_xdr::{Cursor, Memory, Writer, XdrFault};

@@ -132,6 +132,12 @@ fn put_args(writer: &mut Writer, op: &Op) -> Result<(), Memory>
         Op::Verify(attributes) => put_fattr(writer, attributes),
         Op::Write(args) => put_write(writer, args),
         Op::ReleaseLockOwner(owned) => put_release(writer, owned),
-        Op::GetFh | Op::LookupP | Op::PutPubFh | Op::PutRootFh | Op::ReadLink | Op::RestoreFh | Op::SaveFh => Ok(()),
+        Op::GetFh
+        | Op::LookupP
+        | Op::PutPubFh
+        | Op::PutRootFh
+        | Op::ReadLink
+        | Op::RestoreFh
+        | Op::SaveFh => Ok(()),
     }
 }
