@@ -3,9 +3,8 @@ ghost use Rattle.std.specs.Prelude.{◌≡◌, ◌≤◌, [], length};
 ghost use Rattle.nm_xdr.specs.Items.{word_at};
 ghost use Rattle.nm_xdr.specs.Places.{end_of, place_of};
 ghost use Rattle.nm_attrs.specs.Takes.{Takes};
-ghost use Rattle.nm_args.specs.Parts.{text_at};
-ghost use Rattle.nm_args.specs.Compounds.{next_at, ops_at, judged, compound_of, Answers};
-ghost use Rattle.nm_args.specs.Steps.{OpsRead, TakesNext, unread};
+ghost use Rattle.nm_args.specs.Compounds.{tag_at, next_at, ops_at, judged, compound_of, Answers};
+ghost use Rattle.nm_args.specs.Steps.{OpsRead, TakesNext, unread, missing_at};
 
 use crate::operations::take_args;
 use crate::parts::take_text;
@@ -25,10 +24,31 @@ pub fn read_compound(alloc: Global, body: &[u8]) -> Result<Compound, ArgsFault>
     ensures { Answers result (length body.now) (compound_of body.now) }
 {
     let mut cursor = Cursor::new(body);
-    let tag = take_text(alloc, &mut cursor)?;
+    let tag = take_tag(alloc, &mut cursor)?;
     let minor = take_word(&mut cursor)?;
     let count = take_word(&mut cursor)?;
     read_judged(alloc, &mut cursor, tag, minor, count)
+}
+
+// Takes the tag. Whatever is wrong in it, the fault is at its length.
+#[tactic(auto, unfolding(crate::specs::Compounds::tag_at))]
+fn take_tag(alloc: Global, cursor: &mut Cursor<'_>) -> Result<Bytes, ReadFault>
+    ensures { Takes tag_at cursor.old result cursor.new }
+{
+    let at = cursor.place();
+    match take_text(alloc, cursor) {
+        Ok(tag) => Ok(tag),
+        Err(fault) => Err(missing_from(fault, at)),
+    }
+}
+
+fn missing_from(fault: ReadFault, at: usize) -> ReadFault
+    ensures { result ≡ missing_at fault at }
+{
+    match fault {
+        ReadFault::Xdr(_) => ReadFault::Xdr(XdrFault::Short { at }),
+        ReadFault::Memory => ReadFault::Memory,
+    }
 }
 
 fn take_word(cursor: &mut Cursor<'_>) -> Result<u32, ReadFault>
