@@ -8,6 +8,7 @@ mod items;
 mod laws;
 mod memory;
 mod numbers;
+mod results;
 mod rows;
 mod status;
 mod table;
@@ -27,6 +28,9 @@ pub use laws::{
 };
 pub use memory::{Memory, Refusal};
 pub use numbers::{Epoch, Era, FsNum, MoveNum, ServerNum};
+pub use results::{
+    AccessOk, ChangeInfo, CreateOk, LockKind, OpenDelegation, OpenOk, ReadOk, WriteOk,
+};
 pub use rows::{FileRow, OpenRow};
 pub use status::OpStatus;
 pub use table::{HeldKind, HeldRow, HeldTable};
