@@ -94,11 +94,13 @@ fn ok_arm(op: u32) -> Option<Arm>
 fn failed_arm(op: u32) -> Option<Arm>
     ensures { result ≡ failed_arm op }
 {
-    match op {
-        34 => Some(Arm::SetAttr),
-        10044 => None,
-        _ => Some(Arm::Nothing),
+    if op == 34 {
+        return Some(Arm::SetAttr);
     }
+    if op == 10044 {
+        return None;
+    }
+    Some(Arm::Nothing)
 }
 
 #[tactic(auto, unfolding(crate::specs::Arms::denied_arm))]

@@ -65,7 +65,7 @@ pub struct ClientAddress {
 }
 
 /// The value of a result: that of the operation with its status (RFC 7530, 16; RFC 7531, nfs_resop4).
-#[derive(Debug, Drop)]
+#[derive(Debug, PartialEq, Eq, Drop)]
 pub enum ResultValue {
     /// The operation has no value with this status.
     Nothing,
@@ -97,7 +97,7 @@ pub enum ResultValue {
 }
 
 /// The result of one operation.
-#[derive(Debug, Drop)]
+#[derive(Debug, PartialEq, Eq, Drop)]
 pub struct OpResult {
     /// The operation's number: one of 3 to 39, or 10044 for one that isn't known.
     pub op: u32,
@@ -109,7 +109,7 @@ pub struct OpResult {
 pub type ResultList = Items<OpResult>;
 
 /// The results of a compound (RFC 7531, COMPOUND4res).
-#[derive(Debug, Drop)]
+#[derive(Debug, PartialEq, Eq, Drop)]
 pub struct Results {
     /// The status of the whole.
     pub status: OpStatus,
