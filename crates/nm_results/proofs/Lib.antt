@@ -1,0 +1,10 @@
+pub mod DirLaws
+pub mod EntryLaws
+pub mod KeepLaws
+pub mod OpenLaws
+pub mod PartLaws
+pub mod PlaceLaws
+pub mod ResultLaws
+pub mod StatusLaws
+pub mod ValueLaws
+pub mod WrittenLaws

@@ -1,0 +1,9 @@
+pub mod Arms
+pub mod Clients
+pub mod Contents
+pub mod Directories
+pub mod Locks
+pub mod Opens
+pub mod Parts
+pub mod Results
+pub mod Values

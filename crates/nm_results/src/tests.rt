@@ -1,0 +1,747 @@
+use super::*;
+use nm_rules::{
+    AccessOk, Bytes, ChangeInfo, CreateOk, Items, LockKind, OpStatus, OpenDelegation, OpenOk,
+    ReadOk, StateId, WriteOk,
+};
+use std::alloc::Global;
+use std::test::Fail;
+
+// The results that follow are what C code packs that rpcgen makes of the description in RFC 7531 (tools/results/run), each without
+// the 16 bytes of the whole before it.
+
+const ACCESS: [u8; 16] = [0, 0, 0, 3, 0, 0, 0, 0, 0, 0, 0, 63, 0, 0, 0, 31];
+
+const COMMIT: [u8; 16] = [0, 0, 0, 5, 0, 0, 0, 0, 97, 98, 99, 100, 101, 102, 103, 104];
+
+const CREATE: [u8; 36] = [
+    0, 0, 0, 6, 0, 0, 0, 0, 0, 0, 0, 1, 0, 0, 0, 0, 0, 0, 0, 5, 0, 0, 0, 0, 0, 0, 0, 6, 0, 0, 0, 1,
+    0, 0, 0, 16,
+];
+
+const GETATTR: [u8; 28] = [
+    0, 0, 0, 9, 0, 0, 0, 0, 0, 0, 0, 1, 0, 0, 0, 16, 0, 0, 0, 8, 0, 0, 0, 0, 0, 0, 0, 9,
+];
+
+const GETFH: [u8; 20] = [
+    0, 0, 0, 10, 0, 0, 0, 0, 0, 0, 0, 5, 72, 65, 78, 68, 76, 0, 0, 0,
+];
+
+const LOCK_DENIED: [u8; 44] = [
+    0, 0, 0, 12, 0, 0, 39, 26, 0, 0, 0, 0, 0, 0, 0, 10, 0, 0, 0, 0, 0, 0, 0, 5, 0, 0, 0, 2, 0, 0,
+    0, 0, 0, 0, 1, 2, 0, 0, 0, 4, 67, 49, 47, 97,
+];
+
+const LOCKT_DENIED: [u8; 44] = [
+    0, 0, 0, 13, 0, 0, 39, 26, 0, 0, 0, 0, 0, 0, 0, 10, 0, 0, 0, 0, 0, 0, 0, 5, 0, 0, 0, 1, 0, 0,
+    0, 0, 0, 0, 1, 2, 0, 0, 0, 4, 67, 49, 47, 97,
+];
+
+const OPEN_NONE: [u8; 64] = [
+    0, 0, 0, 18, 0, 0, 0, 0, 0, 0, 0, 1, 0, 0, 0, 3, 0, 0, 0, 0, 0, 0, 1, 4, 0, 0, 0, 1, 0, 0, 0,
+    0, 0, 0, 0, 5, 0, 0, 0, 0, 0, 0, 0, 6, 0, 0, 0, 6, 0, 0, 0, 2, 0, 0, 0, 16, 0, 0, 0, 2, 0, 0,
+    0, 0,
+];
+
+const OPEN_READ: [u8; 100] = [
+    0, 0, 0, 18, 0, 0, 0, 0, 0, 0, 0, 1, 0, 0, 0, 3, 0, 0, 0, 0, 0, 0, 1, 4, 0, 0, 0, 1, 0, 0, 0,
+    0, 0, 0, 0, 5, 0, 0, 0, 0, 0, 0, 0, 6, 0, 0, 0, 6, 0, 0, 0, 2, 0, 0, 0, 16, 0, 0, 0, 2, 0, 0,
+    0, 1, 0, 0, 0, 7, 0, 0, 0, 3, 0, 0, 0, 0, 0, 0, 1, 4, 0, 0, 0, 0, 0, 0, 0, 0, 0, 0, 0, 0, 0, 0,
+    0, 0, 0, 0, 0, 0,
+];
+
+const OPEN_WRITE: [u8; 112] = [
+    0, 0, 0, 18, 0, 0, 0, 0, 0, 0, 0, 1, 0, 0, 0, 3, 0, 0, 0, 0, 0, 0, 1, 4, 0, 0, 0, 1, 0, 0, 0,
+    0, 0, 0, 0, 5, 0, 0, 0, 0, 0, 0, 0, 6, 0, 0, 0, 6, 0, 0, 0, 2, 0, 0, 0, 16, 0, 0, 0, 2, 0, 0,
+    0, 2, 0, 0, 0, 8, 0, 0, 0, 3, 0, 0, 0, 0, 0, 0, 1, 4, 0, 0, 0, 0, 0, 0, 0, 1, 0, 0, 0, 0, 0,
+    16, 0, 0, 0, 0, 0, 0, 0, 0, 0, 0, 0, 0, 0, 0, 0, 0, 0, 0,
+];
+/// That of `OPEN_WRITE` with other values in the place of those that are passed over.
+const OPEN_OTHER: [u8; 120] = [
+    0, 0, 0, 18, 0, 0, 0, 0, 0, 0, 0, 1, 0, 0, 0, 3, 0, 0, 0, 0, 0, 0, 1, 4, 0, 0, 0, 0, 0, 0, 0,
+    0, 0, 0, 0, 5, 0, 0, 0, 0, 0, 0, 0, 6, 0, 0, 0, 6, 0, 0, 0, 2, 0, 0, 0, 16, 0, 0, 0, 2, 0, 0,
+    0, 2, 0, 0, 0, 8, 0, 0, 0, 3, 0, 0, 0, 0, 0, 0, 1, 4, 0, 0, 0, 1, 0, 0, 0, 1, 0, 0, 0, 0, 0, 0,
+    0, 9, 0, 0, 0, 1, 0, 0, 0, 2, 0, 0, 0, 3, 0, 0, 0, 5, 79, 87, 78, 69, 82, 0, 0, 0,
+];
+
+const READ: [u8; 20] = [
+    0, 0, 0, 25, 0, 0, 0, 0, 0, 0, 0, 1, 0, 0, 0, 3, 97, 98, 99, 0,
+];
+
+const READDIR_0: [u8; 24] = [
+    0, 0, 0, 26, 0, 0, 0, 0, 0, 0, 0, 0, 0, 0, 0, 0, 0, 0, 0, 0, 0, 0, 0, 1,
+];
+
+const READDIR_1: [u8; 64] = [
+    0, 0, 0, 26, 0, 0, 0, 0, 0, 0, 0, 0, 0, 0, 0, 0, 0, 0, 0, 1, 0, 0, 0, 0, 0, 0, 0, 18, 0, 0, 0,
+    3, 120, 121, 122, 0, 0, 0, 0, 1, 0, 0, 0, 16, 0, 0, 0, 8, 0, 0, 0, 0, 0, 0, 0, 9, 0, 0, 0, 0,
+    0, 0, 0, 0,
+];
+
+const READDIR_3: [u8; 120] = [
+    0, 0, 0, 26, 0, 0, 0, 0, 0, 0, 0, 0, 0, 0, 0, 0, 0, 0, 0, 1, 0, 0, 0, 0, 0, 0, 0, 16, 0, 0, 0,
+    1, 120, 0, 0, 0, 0, 0, 0, 0, 0, 0, 0, 0, 0, 0, 0, 1, 0, 0, 0, 0, 0, 0, 0, 17, 0, 0, 0, 2, 120,
+    121, 0, 0, 0, 0, 0, 0, 0, 0, 0, 0, 0, 0, 0, 1, 0, 0, 0, 0, 0, 0, 0, 18, 0, 0, 0, 3, 120, 121,
+    122, 0, 0, 0, 0, 1, 0, 0, 0, 16, 0, 0, 0, 8, 0, 0, 0, 0, 0, 0, 0, 9, 0, 0, 0, 0, 0, 0, 0, 1,
+];
+
+const REMOVE: [u8; 28] = [
+    0, 0, 0, 28, 0, 0, 0, 0, 0, 0, 0, 1, 0, 0, 0, 0, 0, 0, 0, 5, 0, 0, 0, 0, 0, 0, 0, 6,
+];
+
+const SETATTR: [u8; 20] = [0, 0, 0, 34, 0, 0, 0, 0, 0, 0, 0, 2, 0, 0, 0, 16, 0, 0, 0, 2];
+
+const SETATTR_NOENT: [u8; 12] = [0, 0, 0, 34, 0, 0, 0, 2, 0, 0, 0, 0];
+
+const SETCLIENTID: [u8; 24] = [
+    0, 0, 0, 35, 0, 0, 0, 0, 0, 0, 0, 0, 0, 0, 1, 2, 0, 0, 0, 0, 0, 0, 0, 7,
+];
+
+const CLID_INUSE: [u8; 36] = [
+    0, 0, 0, 35, 0, 0, 39, 33, 0, 0, 0, 3, 116, 99, 112, 0, 0, 0, 0, 13, 49, 50, 55, 46, 48, 46,
+    48, 46, 49, 46, 56, 46, 49, 0, 0, 0,
+];
+
+const WRITE: [u8; 24] = [
+    0, 0, 0, 38, 0, 0, 0, 0, 0, 0, 0, 3, 0, 0, 0, 2, 0, 0, 0, 0, 0, 0, 0, 0,
+];
+
+const PLAIN: [u8; 96] = [
+    0, 0, 0, 8, 0, 0, 0, 0, 0, 0, 0, 13, 0, 0, 0, 0, 0, 0, 0, 15, 0, 0, 0, 0, 0, 0, 0, 16, 0, 0, 0,
+    0, 0, 0, 0, 22, 0, 0, 0, 0, 0, 0, 0, 23, 0, 0, 0, 0, 0, 0, 0, 24, 0, 0, 0, 0, 0, 0, 0, 30, 0,
+    0, 0, 0, 0, 0, 0, 31, 0, 0, 0, 0, 0, 0, 0, 32, 0, 0, 0, 0, 0, 0, 0, 36, 0, 0, 0, 0, 0, 0, 0,
+    39, 0, 0, 0, 0,
+];
+
+const FAILED: [u8; 308] = [
+    0, 0, 0, 3, 0, 0, 39, 20, 0, 0, 0, 4, 0, 0, 39, 20, 0, 0, 0, 5, 0, 0, 39, 20, 0, 0, 0, 6, 0, 0,
+    39, 20, 0, 0, 0, 7, 0, 0, 39, 20, 0, 0, 0, 8, 0, 0, 39, 20, 0, 0, 0, 9, 0, 0, 39, 20, 0, 0, 0,
+    10, 0, 0, 39, 20, 0, 0, 0, 11, 0, 0, 39, 20, 0, 0, 0, 12, 0, 0, 39, 20, 0, 0, 0, 13, 0, 0, 39,
+    20, 0, 0, 0, 14, 0, 0, 39, 20, 0, 0, 0, 15, 0, 0, 39, 20, 0, 0, 0, 16, 0, 0, 39, 20, 0, 0, 0,
+    17, 0, 0, 39, 20, 0, 0, 0, 18, 0, 0, 39, 20, 0, 0, 0, 19, 0, 0, 39, 20, 0, 0, 0, 20, 0, 0, 39,
+    20, 0, 0, 0, 21, 0, 0, 39, 20, 0, 0, 0, 22, 0, 0, 39, 20, 0, 0, 0, 23, 0, 0, 39, 20, 0, 0, 0,
+    24, 0, 0, 39, 20, 0, 0, 0, 25, 0, 0, 39, 20, 0, 0, 0, 26, 0, 0, 39, 20, 0, 0, 0, 27, 0, 0, 39,
+    20, 0, 0, 0, 28, 0, 0, 39, 20, 0, 0, 0, 29, 0, 0, 39, 20, 0, 0, 0, 30, 0, 0, 39, 20, 0, 0, 0,
+    31, 0, 0, 39, 20, 0, 0, 0, 32, 0, 0, 39, 20, 0, 0, 0, 33, 0, 0, 39, 20, 0, 0, 0, 34, 0, 0, 39,
+    20, 0, 0, 0, 0, 0, 0, 0, 35, 0, 0, 39, 20, 0, 0, 0, 36, 0, 0, 39, 20, 0, 0, 0, 37, 0, 0, 39,
+    20, 0, 0, 0, 38, 0, 0, 39, 20, 0, 0, 0, 39, 0, 0, 39, 20, 0, 0, 39, 60, 0, 0, 39, 60,
+];
+
+/// Those of CLOSE, LOCK, LOCKU, OPEN_CONFIRM and OPEN_DOWNGRADE.
+const STATEIDS: [[u8; 24]; 5] = [
+    [
+        0, 0, 0, 4, 0, 0, 0, 0, 0, 0, 0, 2, 0, 0, 0, 3, 0, 0, 0, 0, 0, 0, 1, 4,
+    ],
+    [
+        0, 0, 0, 12, 0, 0, 0, 0, 0, 0, 0, 2, 0, 0, 0, 3, 0, 0, 0, 0, 0, 0, 1, 4,
+    ],
+    [
+        0, 0, 0, 14, 0, 0, 0, 0, 0, 0, 0, 2, 0, 0, 0, 3, 0, 0, 0, 0, 0, 0, 1, 4,
+    ],
+    [
+        0, 0, 0, 20, 0, 0, 0, 0, 0, 0, 0, 2, 0, 0, 0, 3, 0, 0, 0, 0, 0, 0, 1, 4,
+    ],
+    [
+        0, 0, 0, 21, 0, 0, 0, 0, 0, 0, 0, 2, 0, 0, 0, 3, 0, 0, 0, 0, 0, 0, 1, 4,
+    ],
+];
+
+/// The stateid in them.
+fn stateid(seqid: u32) -> StateId {
+    StateId {
+        seqid,
+        fs: 3,
+        counter: 260,
+    }
+}
+
+fn cinfo() -> ChangeInfo {
+    ChangeInfo {
+        before: 5,
+        after: 6,
+    }
+}
+
+fn fattr(alloc: Global) -> Result<Fattr, Fail> {
+    Ok(Fattr {
+        words: Items::from_slice(alloc, &[16])?,
+        values: Bytes::from_slice(alloc, &[0, 0, 0, 0, 0, 0, 0, 9])?,
+    })
+}
+
+/// Results with the tag of the C code.
+fn results(alloc: Global, status: OpStatus, ops: &[(u32, OpStatus)]) -> Result<Results, Fail> {
+    let mut items = ResultList::new(alloc);
+    for (op, status) in ops {
+        let value = ResultValue::Nothing;
+        items.push(OpResult {
+            op: *op,
+            status: *status,
+            value,
+        })?;
+    }
+    Ok(Results {
+        status,
+        tag: Bytes::from_slice(alloc, b"tag")?,
+        items,
+    })
+}
+
+/// One result with this value.
+fn result(alloc: Global, op: u32, status: OpStatus, value: ResultValue) -> Result<Results, Fail> {
+    let mut items = ResultList::new(alloc);
+    items.push(OpResult { op, status, value })?;
+    Ok(Results {
+        status,
+        tag: Bytes::from_slice(alloc, b"tag")?,
+        items,
+    })
+}
+
+/// The bytes of so many results, with those of the whole before them.
+fn whole(alloc: Global, status: OpStatus, count: u8, body: &[u8]) -> Result<Vec<u8>, Fail> {
+    let mut bytes = Vec::from_slice(alloc, &status.number().to_be_bytes())?;
+    bytes.extend_from_slice(&[0, 0, 0, 3, b't', b'a', b'g', 0, 0, 0, 0, count])?;
+    bytes.extend_from_slice(body)?;
+    Ok(bytes)
+}
+
+/// The value is read of the bytes, and written as these.
+fn is_both_ways(
+    alloc: Global,
+    body: &[u8],
+    op: u32,
+    status: OpStatus,
+    value: ResultValue,
+) -> Result<bool, Fail> {
+    let bytes = whole(alloc, status, 1, body)?;
+    let want = result(alloc, op, status, value)?;
+    let read = read_results(alloc, &bytes).map_err(|_| "they aren't read")?;
+    let written = write_results(alloc, &want)?;
+    Ok(read == want && written.as_slice() == bytes.as_slice())
+}
+
+/// Where bytes aren't results.
+fn fault(alloc: Global, bytes: &[u8]) -> Option<ResultsFault> {
+    read_results(alloc, bytes).err()
+}
+
+fn at(at: usize) -> Option<ResultsFault> {
+    Some(ResultsFault::At { at })
+}
+
+#[test]
+fn putrootfh_is_five_words(rt: HostRuntime) -> Result<(), Fail> {
+    let alloc = rt.alloc();
+    let bytes = [0, 0, 0, 0, 0, 0, 0, 0, 0, 0, 0, 1, 0, 0, 0, 24, 0, 0, 0, 0];
+    let mut want = results(alloc, OpStatus::Nfs4Ok, &[(24, OpStatus::Nfs4Ok)])?;
+    want.tag = Bytes::new(alloc);
+    let read = read_results(alloc, &bytes).map_err(|_| "they aren't read")?;
+    let same = read == want;
+    assert!(rt; same);
+    assert_eq!(rt; write_results(alloc, &want)?.as_slice(), bytes.as_slice());
+    Ok(())
+}
+
+#[test]
+fn stateids_are_read_as_c_code_packs_them(rt: HostRuntime) -> Result<(), Fail> {
+    let alloc = rt.alloc();
+    let [close, lock, locku, confirm, downgrade] = STATEIDS;
+    let state = stateid(2);
+    let values = [
+        (close, 4, ResultValue::Close(state)),
+        (lock, 12, ResultValue::Lock(state)),
+        (locku, 14, ResultValue::LockU(state)),
+        (confirm, 20, ResultValue::OpenConfirm(state)),
+        (downgrade, 21, ResultValue::OpenDowngrade(state)),
+    ];
+    for (bytes, op, value) in values {
+        let same = is_both_ways(alloc, &bytes, op, OpStatus::Nfs4Ok, value)?;
+        assert!(rt; same, "operation {op}");
+    }
+    Ok(())
+}
+
+#[test]
+fn contents_are_read_as_c_code_packs_them(rt: HostRuntime) -> Result<(), Fail> {
+    let alloc = rt.alloc();
+    let access = AccessOk {
+        supported: 63,
+        access: 31,
+    };
+    let read = ReadOk {
+        eof: true,
+        data: Bytes::from_slice(alloc, b"abc")?,
+    };
+    let write = WriteOk {
+        count: 3,
+        committed: 2,
+        writeverf: 0,
+    };
+    let verifier = 0x6162_6364_6566_6768;
+    let handle = Bytes::from_slice(alloc, b"HANDL")?;
+    let words = Items::from_slice(alloc, &[16, 2])?;
+    let values: [(&[u8], u32, ResultValue); 7] = [
+        (&ACCESS, 3, ResultValue::Access(access)),
+        (&COMMIT, 5, ResultValue::Commit(verifier)),
+        (&GETATTR, 9, ResultValue::GetAttr(fattr(alloc)?)),
+        (&GETFH, 10, ResultValue::GetFh(handle)),
+        (&READ, 25, ResultValue::Read(read)),
+        (&SETATTR, 34, ResultValue::SetAttr(words)),
+        (&WRITE, 38, ResultValue::Write(write)),
+    ];
+    for (bytes, op, value) in values {
+        let same = is_both_ways(alloc, bytes, op, OpStatus::Nfs4Ok, value)?;
+        assert!(rt; same, "operation {op}");
+    }
+    Ok(())
+}
+
+#[test]
+fn opens_are_read_as_c_code_packs_them(rt: HostRuntime) -> Result<(), Fail> {
+    let alloc = rt.alloc();
+    let opens: [(&[u8], OpenDelegation); 3] = [
+        (&OPEN_NONE, OpenDelegation::None),
+        (&OPEN_READ, OpenDelegation::Read(stateid(7))),
+        (&OPEN_WRITE, OpenDelegation::Write(stateid(8))),
+    ];
+    for (bytes, delegation) in opens {
+        let value = open(alloc, delegation)?;
+        let same = is_both_ways(alloc, bytes, 18, OpStatus::Nfs4Ok, value)?;
+        assert!(rt; same);
+    }
+    Ok(())
+}
+
+fn open(alloc: Global, delegation: OpenDelegation) -> Result<ResultValue, Fail> {
+    Ok(ResultValue::Open(OpenOk {
+        stateid: stateid(1),
+        cinfo: cinfo(),
+        rflags: 6,
+        attrset: Items::from_slice(alloc, &[16, 2])?,
+        delegation,
+    }))
+}
+
+#[test]
+fn what_is_passed_over_is_written_in_one_way(rt: HostRuntime) -> Result<(), Fail> {
+    let alloc = rt.alloc();
+    let bytes = whole(alloc, OpStatus::Nfs4Ok, 1, &OPEN_OTHER)?;
+    let read = read_results(alloc, &bytes).map_err(|_| "they aren't read")?;
+    let value = open(alloc, OpenDelegation::Write(stateid(8)))?;
+    let same = read == result(alloc, 18, OpStatus::Nfs4Ok, value)?;
+    assert!(rt; same);
+    let want = whole(alloc, OpStatus::Nfs4Ok, 1, &OPEN_WRITE)?;
+    assert_eq!(rt; write_results(alloc, &read)?.as_slice(), want.as_slice());
+    Ok(())
+}
+
+fn denied(alloc: Global, kind: LockKind) -> Result<ResultValue, Fail> {
+    Ok(ResultValue::Denied(LockDenied {
+        offset: 10,
+        length: 5,
+        kind,
+        clientid: 258,
+        owner: Bytes::from_slice(alloc, b"C1/a")?,
+    }))
+}
+
+#[test]
+fn a_lock_in_the_way_is_read_as_c_code_packs_it(rt: HostRuntime) -> Result<(), Fail> {
+    let alloc = rt.alloc();
+    let write = denied(alloc, LockKind::Write)?;
+    let same = is_both_ways(alloc, &LOCK_DENIED, 12, OpStatus::Denied, write)?;
+    assert!(rt; same);
+    let read = denied(alloc, LockKind::Read)?;
+    let same = is_both_ways(alloc, &LOCKT_DENIED, 13, OpStatus::Denied, read)?;
+    assert!(rt; same);
+    Ok(())
+}
+
+#[test]
+fn a_lock_that_waits_is_of_its_kind(rt: HostRuntime) -> Result<(), Fail> {
+    let alloc = rt.alloc();
+    for (number, kind) in [
+        (1, LockKind::Read),
+        (2, LockKind::Write),
+        (3, LockKind::Read),
+        (4, LockKind::Write),
+    ] {
+        let bytes = denied_of_type(alloc, number)?;
+        let read = read_results(alloc, &bytes).map_err(|_| "they aren't read")?;
+        let same = read == result(alloc, 12, OpStatus::Denied, denied(alloc, kind)?)?;
+        assert!(rt; same, "type {number}");
+    }
+    for number in [0, 5, 255] {
+        let bytes = denied_of_type(alloc, number)?;
+        assert_eq!(rt; fault(alloc, &bytes), at(40), "type {number}");
+    }
+    Ok(())
+}
+
+fn denied_of_type(alloc: Global, number: u8) -> Result<Vec<u8>, Fail> {
+    let mut bytes = whole(alloc, OpStatus::Denied, 1, &LOCK_DENIED)?;
+    *bytes.get_mut(43).ok_or("a type")? = number;
+    Ok(bytes)
+}
+
+fn entry(alloc: Global, cookie: u64, name: &[u8], attrs: Fattr) -> Result<DirEntry, Fail> {
+    Ok(DirEntry {
+        cookie,
+        name: Bytes::from_slice(alloc, name)?,
+        attrs,
+    })
+}
+
+fn no_attributes(alloc: Global) -> Fattr {
+    Fattr {
+        words: Items::new(alloc),
+        values: Bytes::new(alloc),
+    }
+}
+
+#[test]
+fn directories_are_read_as_c_code_packs_them(rt: HostRuntime) -> Result<(), Fail> {
+    let alloc = rt.alloc();
+    let mut one = DirEntries::new(alloc);
+    one.push(entry(alloc, 18, b"xyz", fattr(alloc)?)?)?;
+    let mut three = DirEntries::new(alloc);
+    three.push(entry(alloc, 16, b"x", no_attributes(alloc))?)?;
+    three.push(entry(alloc, 17, b"xy", no_attributes(alloc))?)?;
+    three.push(entry(alloc, 18, b"xyz", fattr(alloc)?)?)?;
+    let dirs: [(&[u8], DirEntries, bool); 3] = [
+        (&READDIR_0, DirEntries::new(alloc), true),
+        (&READDIR_1, one, false),
+        (&READDIR_3, three, true),
+    ];
+    for (bytes, entries, eof) in dirs {
+        let value = ResultValue::ReadDir(ReadDirOk {
+            cookieverf: 0,
+            entries,
+            eof,
+        });
+        let same = is_both_ways(alloc, bytes, 26, OpStatus::Nfs4Ok, value)?;
+        assert!(rt; same);
+    }
+    let create = ResultValue::Create(CreateOk {
+        cinfo: cinfo(),
+        attrset: Items::from_slice(alloc, &[16])?,
+    });
+    let same = is_both_ways(alloc, &CREATE, 6, OpStatus::Nfs4Ok, create)?;
+    assert!(rt; same);
+    let remove = ResultValue::Remove(cinfo());
+    let same = is_both_ways(alloc, &REMOVE, 28, OpStatus::Nfs4Ok, remove)?;
+    assert!(rt; same);
+    Ok(())
+}
+
+#[test]
+fn many_entries_are_read_as_they_are_written(rt: HostRuntime) -> Result<(), Fail> {
+    let alloc = rt.alloc();
+    let mut entries = DirEntries::new(alloc);
+    for cookie in 0..4_096 {
+        entries.push(entry(alloc, cookie, b"name", no_attributes(alloc))?)?;
+    }
+    let value = ResultValue::ReadDir(ReadDirOk {
+        cookieverf: 0,
+        entries,
+        eof: true,
+    });
+    let want = result(alloc, 26, OpStatus::Nfs4Ok, value)?;
+    let bytes = write_results(alloc, &want)?;
+    // 28 bytes of an entry, and the mark of the end, behind the 32 bytes before them
+    assert_eq!(rt; bytes.len(), 32 + 4_096 * 28 + 8);
+    let read = read_results(alloc, &bytes).map_err(|_| "they aren't read")?;
+    let same = read == want;
+    assert!(rt; same);
+    Ok(())
+}
+
+#[test]
+fn clients_are_read_as_c_code_packs_them(rt: HostRuntime) -> Result<(), Fail> {
+    let alloc = rt.alloc();
+    let client = ResultValue::SetClientId(SetClientIdOk {
+        clientid: 258,
+        confirm: 7,
+    });
+    let same = is_both_ways(alloc, &SETCLIENTID, 35, OpStatus::Nfs4Ok, client)?;
+    assert!(rt; same);
+    let address = ResultValue::ClientInUse(ClientAddress {
+        netid: Bytes::from_slice(alloc, b"tcp")?,
+        addr: Bytes::from_slice(alloc, b"127.0.0.1.8.1")?,
+    });
+    let same = is_both_ways(alloc, &CLID_INUSE, 35, OpStatus::ClidInUse, address)?;
+    assert!(rt; same);
+    Ok(())
+}
+
+#[test]
+fn setattr_has_its_bitmap_with_a_failure(rt: HostRuntime) -> Result<(), Fail> {
+    let alloc = rt.alloc();
+    let value = ResultValue::SetAttr(Items::new(alloc));
+    let same = is_both_ways(alloc, &SETATTR_NOENT, 34, OpStatus::NoEnt, value)?;
+    assert!(rt; same);
+    let without = whole(
+        alloc,
+        OpStatus::NoEnt,
+        1,
+        SETATTR_NOENT.get(..8).ok_or("a result")?,
+    )?;
+    assert_eq!(rt; fault(alloc, &without), at(24));
+    Ok(())
+}
+
+#[test]
+fn statuses_alone_are_read_as_c_code_packs_them(rt: HostRuntime) -> Result<(), Fail> {
+    let alloc = rt.alloc();
+    let plain = [8, 13, 15, 16, 22, 23, 24, 30, 31, 32, 36, 39];
+    let ops = plain.map(|op| (op, OpStatus::Nfs4Ok));
+    let want = results(alloc, OpStatus::Nfs4Ok, &ops)?;
+    let bytes = whole(alloc, OpStatus::Nfs4Ok, 12, &PLAIN)?;
+    let read = read_results(alloc, &bytes).map_err(|_| "they aren't read")?;
+    let same = read == want;
+    assert!(rt; same);
+    assert_eq!(rt; write_results(alloc, &want)?.as_slice(), bytes.as_slice());
+    Ok(())
+}
+
+#[test]
+fn failures_of_every_operation_are_read_as_c_code_packs_them(rt: HostRuntime) -> Result<(), Fail> {
+    let alloc = rt.alloc();
+    let mut want = results(alloc, OpStatus::OpIllegal, &[])?;
+    for op in 3..40 {
+        let value = if op == 34 {
+            ResultValue::SetAttr(Items::new(alloc))
+        } else {
+            ResultValue::Nothing
+        };
+        want.items.push(OpResult {
+            op,
+            status: OpStatus::NotSupp,
+            value,
+        })?;
+    }
+    want.items.push(OpResult {
+        op: 10044,
+        status: OpStatus::OpIllegal,
+        value: ResultValue::Nothing,
+    })?;
+    let bytes = whole(alloc, OpStatus::OpIllegal, 38, &FAILED)?;
+    let read = read_results(alloc, &bytes).map_err(|_| "they aren't read")?;
+    let same = read == want;
+    assert!(rt; same);
+    assert_eq!(rt; write_results(alloc, &want)?.as_slice(), bytes.as_slice());
+    Ok(())
+}
+
+/// The bytes of one result without a value.
+fn bare(alloc: Global, op: u32, status: u32) -> Result<Vec<u8>, Fail> {
+    let mut bytes = whole(alloc, OpStatus::Nfs4Ok, 1, &op.to_be_bytes())?;
+    bytes.extend_from_slice(&status.to_be_bytes())?;
+    Ok(bytes)
+}
+
+#[test]
+fn an_operation_that_isnt_served_has_no_ok(rt: HostRuntime) -> Result<(), Fail> {
+    let alloc = rt.alloc();
+    for op in [7, 11, 17, 19, 27, 29, 33, 37, 10044] {
+        assert_eq!(rt;
+            fault(alloc, &bare(alloc, op, 0)?),
+            at(20),
+            "operation {op}"
+        );
+    }
+    // NOTSUPP of an operation that isn't known
+    assert_eq!(rt; fault(alloc, &bare(alloc, 10044, 10004)?), at(20));
+    for op in [0, 1, 2, 40, 10043, 10045, u32::MAX] {
+        assert_eq!(rt;
+            fault(alloc, &bare(alloc, op, 10044)?),
+            at(16),
+            "operation {op}"
+        );
+    }
+    Ok(())
+}
+
+#[test]
+fn a_status_outside_the_table_isnt_one(rt: HostRuntime) -> Result<(), Fail> {
+    let alloc = rt.alloc();
+    // PERM, IO, ACCESS, ROFS, SAME, TOO_MANY_OPS of a later version, and others that no standard has
+    for status in [1, 5, 13, 30, 10009, 10070, 3, 10000, 10047, u32::MAX] {
+        assert_eq!(rt;
+            fault(alloc, &bare(alloc, 24, status)?),
+            at(20),
+            "status {status}"
+        );
+        let mut bytes = bare(alloc, 24, 0)?;
+        bytes
+            .as_mut_slice()
+            .get_mut(..4)
+            .ok_or("a status")?
+            .copy_from_slice(&status.to_be_bytes());
+        assert_eq!(rt; fault(alloc, &bytes), at(0), "status {status}");
+    }
+    Ok(())
+}
+
+/// Where the items of a whole message with `OPEN_OTHER` begin, and with `READDIR_1`.
+const OPEN_ITEMS: [usize; 23] = [
+    0, 4, 12, 16, 20, 24, 28, 40, 44, 52, 60, 64, 68, 72, 76, 80, 84, 96, 100, 104, 112, 116, 120,
+];
+
+const DIR_ITEMS: [usize; 14] = [0, 4, 12, 16, 20, 24, 32, 36, 44, 52, 56, 60, 72, 76];
+
+/// The last of these places that isn't past a length.
+fn item_of(items: &[usize], len: usize) -> usize {
+    let mut at = 0;
+    for item in items {
+        if *item <= len {
+            at = *item;
+        }
+    }
+    at
+}
+
+#[test]
+fn a_cut_is_told_at_the_item_that_is_cut(rt: HostRuntime) -> Result<(), Fail> {
+    let alloc = rt.alloc();
+    let open = whole(alloc, OpStatus::Nfs4Ok, 1, &OPEN_OTHER)?;
+    for len in 0..open.len() {
+        // the name in the ace is the last item
+        let item = if len < 124 {
+            item_of(&OPEN_ITEMS, len)
+        } else {
+            124
+        };
+        let cut = open.get(..len).ok_or("a length")?;
+        assert_eq!(rt; fault(alloc, cut), at(item), "cut after {len}");
+    }
+    let dir = whole(alloc, OpStatus::Nfs4Ok, 1, &READDIR_1)?;
+    for len in 0..dir.len() {
+        let cut = dir.get(..len).ok_or("a length")?;
+        assert_eq!(rt;
+            fault(alloc, cut),
+            at(item_of(&DIR_ITEMS, len)),
+            "cut after {len}"
+        );
+    }
+    Ok(())
+}
+
+#[test]
+fn a_word_of_ones_is_told_or_is_another_value(rt: HostRuntime) -> Result<(), Fail> {
+    let alloc = rt.alloc();
+    let open = whole(alloc, OpStatus::Nfs4Ok, 1, &OPEN_OTHER)?;
+    // the word, and the place that is told; a word that isn't here may be any
+    let told = [
+        (0, 0),
+        (4, 4),
+        // the byte that pads the tag
+        (8, 11),
+        // results without end: the second isn't there
+        (12, 136),
+        (16, 16),
+        (20, 20),
+        // whether the change is atomic
+        (40, 40),
+        // more than 8 words of a bitmap
+        (64, 64),
+        // the kind of delegation, whether it is recalled, and its limit
+        (76, 76),
+        (96, 96),
+        (100, 100),
+        // the length of the name in the ace, and the first byte that pads it
+        (124, 124),
+        (132, 133),
+    ];
+    for word in 0..34 {
+        let mut bytes = Vec::from_slice(alloc, &open)?;
+        bytes
+            .as_mut_slice()
+            .get_mut(4 * word..4 * word + 4)
+            .ok_or("a word")?
+            .fill(0xff);
+        let mut want = None;
+        for (of, place) in told {
+            if of == 4 * word {
+                want = at(place);
+            }
+        }
+        assert_eq!(rt; fault(alloc, &bytes), want, "word {word}");
+    }
+    Ok(())
+}
+
+#[test]
+fn a_limit_of_blocks_is_outside(rt: HostRuntime) -> Result<(), Fail> {
+    let alloc = rt.alloc();
+    for number in [0, 2, 3] {
+        let mut bytes = whole(alloc, OpStatus::Nfs4Ok, 1, &OPEN_WRITE)?;
+        *bytes.get_mut(103).ok_or("a limit")? = number;
+        assert_eq!(rt; fault(alloc, &bytes), at(100), "limit {number}");
+    }
+    Ok(())
+}
+
+#[test]
+fn a_byte_left_over_is_told(rt: HostRuntime) -> Result<(), Fail> {
+    let alloc = rt.alloc();
+    for (body, end) in [(GETFH.as_slice(), 36), (READ.as_slice(), 36)] {
+        let mut bytes = whole(alloc, OpStatus::Nfs4Ok, 1, body)?;
+        bytes.push(0)?;
+        assert_eq!(rt; fault(alloc, &bytes), at(end));
+        bytes.extend_from_slice(&[0; 7])?;
+        assert_eq!(rt; fault(alloc, &bytes), at(end));
+    }
+    Ok(())
+}
+
+/// A whole message with one result, whose value is a length and so many bytes.
+fn of_length(alloc: Global, op: u8, length: u32) -> Result<Vec<u8>, Fail> {
+    let mut bytes = whole(alloc, OpStatus::Nfs4Ok, 1, &[0, 0, 0, op, 0, 0, 0, 0])?;
+    bytes.extend_from_slice(&length.to_be_bytes())?;
+    bytes.resize(bytes.len() + (length as usize).div_ceil(4) * 4, 0)?;
+    Ok(bytes)
+}
+
+#[test]
+fn a_length_may_be_its_limit(rt: HostRuntime) -> Result<(), Fail> {
+    let alloc = rt.alloc();
+    // GETFH: a filehandle of 128 bytes
+    assert_eq!(rt; fault(alloc, &of_length(alloc, 10, 128)?), None);
+    assert_eq!(rt; fault(alloc, &of_length(alloc, 10, 129)?), at(24));
+    assert_eq!(rt;
+        fault(alloc, &of_length(alloc, 10, u32::MAX / 4_096)?),
+        at(24)
+    );
+    // SETATTR: 8 words
+    for (words, want) in [(8, None), (9, at(24))] {
+        let mut bytes = of_length(alloc, 34, 4 * words)?;
+        *bytes.get_mut(27).ok_or("a count")? = words as u8;
+        assert_eq!(rt; fault(alloc, &bytes), want, "{words} words");
+    }
+    // the tag: 1,024 bytes
+    for (length, want) in [(1_024, None), (1_025, at(4))] {
+        let mut bytes = Vec::from_slice(alloc, &[0, 0, 0, 0])?;
+        bytes.extend_from_slice(&u32::to_be_bytes(length))?;
+        bytes.resize(12 + (length as usize).div_ceil(4) * 4, 0)?;
+        assert_eq!(rt; fault(alloc, &bytes), want, "a tag of {length}");
+    }
+    Ok(())
+}
+
+#[test]
+fn data_may_have_65536_bytes(rt: HostRuntime) -> Result<(), Fail> {
+    let alloc = rt.alloc();
+    for (length, want) in [(65_536, None), (65_537, at(28))] {
+        let mut bytes = whole(
+            alloc,
+            OpStatus::Nfs4Ok,
+            1,
+            &[0, 0, 0, 25, 0, 0, 0, 0, 0, 0, 0, 1],
+        )?;
+        bytes.extend_from_slice(&u32::to_be_bytes(length))?;
+        bytes.resize(32 + (length as usize).div_ceil(4) * 4, 0)?;
+        assert_eq!(rt; fault(alloc, &bytes), want, "{length} bytes");
+    }
+    Ok(())
+}

@@ -1,0 +1,57 @@
+//! Writing of results.
+ghost use Rattle.std.specs.Prelude.{◌≡◌, ◌++◌, All, IfOk, OnOk};
+ghost use Rattle.std.specs.List.{flat_map};
+ghost use Rattle.nm_results.specs.Results.{result_bytes, results_bytes, IsOpResult, AreResults};
+
+use crate::value_writing::put_result_value;
+use crate::{OpResult, Results};
+use nm_rules::Memory;
+use nm_xdr::Writer;
+use std::alloc::Global;
+
+/// Writes the results of a compound (RFC 7530, 16; RFC 7531, COMPOUND4res). Each value is the one that its operation has with
+/// its status, lengths are within their limits, and there are fewer than 2^32 results.
+///
+/// A change is written as atomic, and a delegation as not recalled, for nobody in particular, and for a file of up to 1 MiB.
+/// Memory where there is none for the bytes.
+#[tactic(auto, unfolding(crate::specs::Results::results_bytes))]
+pub fn write_results(alloc: Global, value: &Results) -> Result<Vec<u8>, Memory>
+    requires { AreResults value.now }
+    ensures { IfOk result (λ bytes. bytes.items ≡ results_bytes value.now) }
+{
+    let mut writer = Writer::new(alloc);
+    put_results(&mut writer, value).map_err(|_| Memory)?;
+    Ok(writer.finish())
+}
+
+#[tactic(auto, unfolding(crate::specs::Results::results_bytes))]
+fn put_results(writer: &mut Writer, value: &Results) -> Result<(), nm_xdr::Memory>
+    requires { AreResults value.now }
+    ensures { OnOk result (writer.new ≡ writer.old ++ results_bytes value.now) }
+{
+    writer.put_u32(value.status.number())?;
+    writer.put_opaque(value.tag.items())?;
+    writer.put_u32(value.items.items().len() as u32)?;
+    put_each(writer, value.items.items())
+}
+
+// The results, one after the other.
+fn put_each(writer: &mut Writer, results: &[OpResult]) -> Result<(), nm_xdr::Memory>
+    requires { All IsOpResult results.now }
+    ensures { OnOk result (writer.new ≡ writer.old ++ flat_map result_bytes results.now) }
+{
+    for item in results {
+        put_result(writer, item)?;
+    }
+    Ok(())
+}
+
+#[tactic(auto, unfolding(crate::specs::Results::result_bytes))]
+fn put_result(writer: &mut Writer, value: &OpResult) -> Result<(), nm_xdr::Memory>
+    requires { IsOpResult value.now }
+    ensures { OnOk result (writer.new ≡ writer.old ++ result_bytes value.now) }
+{
+    writer.put_u32(value.op)?;
+    writer.put_u32(value.status.number())?;
+    put_result_value(writer, &value.value)
+}

@@ -1,0 +1,202 @@
+/* Prints what the code that rpcgen makes of results.x packs for the results that the tests of nm_results read. */
+#include <stdio.h>
+#include <stdlib.h>
+#include <string.h>
+#include "results.h"
+
+static nfs_resop4 op(u_int number, nfsstat4 status)
+{
+    nfs_resop4 r;
+    memset(&r, 0, sizeof r);
+    r.resop = number;
+    /* the status stands first in every arm */
+    r.nfs_resop4_u.opstatus = status;
+    return r;
+}
+
+static void print(const char *name, nfs_resop4 *ops, u_int count, nfsstat4 status)
+{
+    static char bytes[65536];
+    XDR xdrs;
+    COMPOUND4res res;
+    memset(&res, 0, sizeof res);
+    res.status = status;
+    res.tag.utf8string_val = "tag";
+    res.tag.utf8string_len = 3;
+    res.resarray.resarray_val = ops;
+    res.resarray.resarray_len = count;
+    xdrmem_create(&xdrs, bytes, sizeof bytes, XDR_ENCODE);
+    if (!xdr_COMPOUND4res(&xdrs, &res)) {
+        fprintf(stderr, "%s isn't packed\n", name);
+        exit(1);
+    }
+    printf("%s:", name);
+    for (u_int i = 0; i < xdr_getpos(&xdrs); i++)
+        printf("%s%d", i ? ", " : " ", (unsigned char)bytes[i]);
+    printf("\n");
+}
+
+static void print_one(const char *name, nfs_resop4 r)
+{
+    print(name, &r, 1, r.nfs_resop4_u.opstatus);
+}
+
+static stateid4 stateid(u_int seqid)
+{
+    stateid4 s = {seqid, {0, 0, 0, 3, 0, 0, 0, 0, 0, 0, 1, 4}};
+    return s;
+}
+
+static change_info4 change(void)
+{
+    change_info4 c = {1, 5, 6};
+    return c;
+}
+
+static u_int words[] = {16, 2};
+static bitmap4 bitmap(u_int n)
+{
+    bitmap4 b = {n, words};
+    return b;
+}
+
+static fattr4 fattr(void)
+{
+    fattr4 a = {{1, words}, {8, "\0\0\0\0\0\0\0\011"}};
+    return a;
+}
+
+static nfs_resop4 open_of(open_delegation4 d)
+{
+    nfs_resop4 r = op(18, NFS4_OK);
+    OPEN4resok *o = &r.nfs_resop4_u.opopen.OPEN4res_u.resok4;
+    o->stateid = stateid(1);
+    o->cinfo = change();
+    o->rflags = 6;
+    o->attrset = bitmap(2);
+    o->delegation = d;
+    return r;
+}
+
+static nfs_resop4 dir_of(entry4 *entries, int eof)
+{
+    nfs_resop4 r = op(26, NFS4_OK);
+    READDIR4resok *d = &r.nfs_resop4_u.opreaddir.READDIR4res_u.resok4;
+    d->reply.entries = entries;
+    d->reply.eof = eof;
+    return r;
+}
+
+int main(void)
+{
+    nfs_resop4 r;
+    nfs_resop4 each[40];
+    open_delegation4 d;
+    entry4 entries[3];
+    u_int stateids[] = {4, 12, 14, 20, 21};
+    LOCK4denied denied = {10, 5, WRITE_LT, {258, {4, "C1/a"}}};
+
+    r = op(3, NFS4_OK);
+    r.nfs_resop4_u.opaccess.ACCESS4res_u.resok4.supported = 63;
+    r.nfs_resop4_u.opaccess.ACCESS4res_u.resok4.access = 31;
+    print_one("ACCESS", r);
+    for (int i = 0; i < 5; i++) {
+        r = op(stateids[i], NFS4_OK);
+        if (stateids[i] == 12)
+            r.nfs_resop4_u.oplock.LOCK4res_u.lock_stateid = stateid(2);
+        else
+            r.nfs_resop4_u.opclose.STATEID4res_u.stateid = stateid(2);
+        print_one("STATEID", r);
+    }
+    r = op(5, NFS4_OK);
+    memcpy(r.nfs_resop4_u.opcommit.COMMIT4res_u.writeverf, "abcdefgh", 8);
+    print_one("COMMIT", r);
+    r = op(6, NFS4_OK);
+    r.nfs_resop4_u.opcreate.CREATE4res_u.resok4.cinfo = change();
+    r.nfs_resop4_u.opcreate.CREATE4res_u.resok4.attrset = bitmap(1);
+    print_one("CREATE", r);
+    r = op(9, NFS4_OK);
+    r.nfs_resop4_u.opgetattr.GETATTR4res_u.obj_attributes = fattr();
+    print_one("GETATTR", r);
+    r = op(10, NFS4_OK);
+    r.nfs_resop4_u.opgetfh.GETFH4res_u.object.nfs_fh4_len = 5;
+    r.nfs_resop4_u.opgetfh.GETFH4res_u.object.nfs_fh4_val = "HANDL";
+    print_one("GETFH", r);
+    r = op(12, NFS4ERR_DENIED);
+    r.nfs_resop4_u.oplock.LOCK4res_u.denied = denied;
+    print_one("LOCK_DENIED", r);
+    denied.locktype = READ_LT;
+    r = op(13, NFS4ERR_DENIED);
+    r.nfs_resop4_u.oplockt.LOCKT4res_u.denied = denied;
+    print_one("LOCKT_DENIED", r);
+
+    memset(&d, 0, sizeof d);
+    print_one("OPEN_NONE", open_of(d));
+    d.delegation_type = OPEN_DELEGATE_READ;
+    d.open_delegation4_u.read.stateid = stateid(7);
+    print_one("OPEN_READ", open_of(d));
+    memset(&d, 0, sizeof d);
+    d.delegation_type = OPEN_DELEGATE_WRITE;
+    d.open_delegation4_u.write.stateid = stateid(8);
+    d.open_delegation4_u.write.space_limit.limitby = NFS_LIMIT_SIZE;
+    d.open_delegation4_u.write.space_limit.nfs_space_limit4_u.filesize = 1048576;
+    print_one("OPEN_WRITE", open_of(d));
+    /* what is passed over in reading */
+    d.open_delegation4_u.write.recall = 1;
+    d.open_delegation4_u.write.space_limit.nfs_space_limit4_u.filesize = 9;
+    d.open_delegation4_u.write.permissions.type = 1;
+    d.open_delegation4_u.write.permissions.flag = 2;
+    d.open_delegation4_u.write.permissions.access_mask = 3;
+    d.open_delegation4_u.write.permissions.who.utf8string_len = 5;
+    d.open_delegation4_u.write.permissions.who.utf8string_val = "OWNER";
+    r = open_of(d);
+    r.nfs_resop4_u.opopen.OPEN4res_u.resok4.cinfo.atomic = 0;
+    print_one("OPEN_OTHER", r);
+
+    r = op(25, NFS4_OK);
+    r.nfs_resop4_u.opread.READ4res_u.resok4.eof = 1;
+    r.nfs_resop4_u.opread.READ4res_u.resok4.data.data_len = 3;
+    r.nfs_resop4_u.opread.READ4res_u.resok4.data.data_val = "abc";
+    print_one("READ", r);
+    memset(entries, 0, sizeof entries);
+    for (int i = 0; i < 3; i++) {
+        entries[i].cookie = 16 + i;
+        entries[i].name.utf8string_len = i + 1;
+        entries[i].name.utf8string_val = "xyz";
+        entries[i].nextentry = i < 2 ? &entries[i + 1] : NULL;
+    }
+    entries[2].attrs = fattr();
+    print_one("READDIR_0", dir_of(NULL, 1));
+    print_one("READDIR_1", dir_of(&entries[2], 0));
+    print_one("READDIR_3", dir_of(entries, 1));
+    r = op(28, NFS4_OK);
+    r.nfs_resop4_u.opremove.REMOVE4res_u.cinfo = change();
+    print_one("REMOVE", r);
+    r = op(34, NFS4_OK);
+    r.nfs_resop4_u.opsetattr.attrsset = bitmap(2);
+    print_one("SETATTR", r);
+    print_one("SETATTR_NOENT", op(34, NFS4ERR_NOENT));
+    r = op(35, NFS4_OK);
+    r.nfs_resop4_u.opsetclientid.SETCLIENTID4res_u.resok4.clientid = 258;
+    memcpy(r.nfs_resop4_u.opsetclientid.SETCLIENTID4res_u.resok4.setclientid_confirm, "\0\0\0\0\0\0\0\7", 8);
+    print_one("SETCLIENTID", r);
+    r = op(35, NFS4ERR_CLID_INUSE);
+    r.nfs_resop4_u.opsetclientid.SETCLIENTID4res_u.client_using.r_netid = "tcp";
+    r.nfs_resop4_u.opsetclientid.SETCLIENTID4res_u.client_using.r_addr = "127.0.0.1.8.1";
+    print_one("CLID_INUSE", r);
+    r = op(38, NFS4_OK);
+    r.nfs_resop4_u.opwrite.WRITE4res_u.resok4.count = 3;
+    r.nfs_resop4_u.opwrite.WRITE4res_u.resok4.committed = FILE_SYNC4;
+    print_one("WRITE", r);
+
+    u_int plain[] = {8, 13, 15, 16, 22, 23, 24, 30, 31, 32, 36, 39};
+    for (int i = 0; i < 12; i++)
+        each[i] = op(plain[i], NFS4_OK);
+    print("PLAIN", each, 12, NFS4_OK);
+    u_int count = 0;
+    for (u_int n = 3; n < 40; n++)
+        each[count++] = op(n, NFS4ERR_NOTSUPP);
+    each[count++] = op(10044, NFS4ERR_OP_ILLEGAL);
+    print("FAILED", each, count, NFS4ERR_OP_ILLEGAL);
+    return 0;
+}
