@@ -1,22 +1,18 @@
 -- A compound is read exactly where its arguments are spelled.
-use Rattle.std.proofs.Common.{◌≡◌, ◌≢◌, ℕ, zero, suc, ◌+◌, ◌-◌, ◌^◌, ◌≤◌, ◌<◌, Bool, true, false, not, cond, eqb, ltb, List, [], ◌∷◌, ◌++◌, length, Option, Some, None, Result, Ok, Err, All, refl, sym, ap, subst, ◌∙◌, append_assoc, arith}
+use Rattle.std.proofs.Common.{◌≡◌, ℕ, zero, suc, ◌^◌, ◌<◌, List, [], ◌∷◌, ◌++◌, length, Option, Some, None, Result, Ok, Err, refl, sym, ap, subst, ◌∙◌, append_assoc, arith}
 use Rattle.std.specs.List.{flat_map, AllByRecursion}
-use Rattle.std.proofs.lemmas.Bool.{eqb-true, eqb-false, eq-eqb, ne_eqb, ltb-true, ltb-false, lt-ltb, le-ltb}
 use Rattle.std.proofs.lemmas.List.{append-nil}
-use Rattle.std.proofs.lemmas.List.Elements.{All-from_recursion, recursion_from_All}
-use Rattle.nm_xdr.specs.Fields.{Fault, ◌>>=◌, ended, IsBytes}
-use Rattle.nm_xdr.specs.Items.{word, opaque, word_at}
-use Rattle.nm_xdr.proofs.FieldLaws.{bind_ok, IsBytes-behind}
+use Rattle.nm_xdr.specs.Fields.{Fault, ended, IsBytes}
+use Rattle.nm_xdr.specs.Items.{word, word_at}
+use Rattle.nm_xdr.proofs.FieldLaws.{IsBytes-behind}
 use Rattle.nm_xdr.proofs.ItemLaws.{word_item}
 use Rattle.nm_args.specs.declared.op.Op.{Op}
 use Rattle.nm_args.specs.declared.op.OpCode.{OpCode}
-use Rattle.nm_args.specs.declared.compound.Compound.{Compound}
 use Rattle.nm_args.specs.declared.compound.CompoundEnd.{CompoundEnd}
 use Rattle.nm_args.specs.declared.compound.CompoundEnd.TheVariants.{Clean, Minor, TooMany, BadXdr, Illegal}
-use Rattle.nm_args.specs.Parts.{IsWord, text_at}
+use Rattle.nm_args.specs.Parts.{IsWord}
 use Rattle.nm_args.specs.Operations.{number_of, code_of_number, code_of, args_at, args, IsOp, operation}
-use Rattle.nm_args.specs.Compounds.{compound, CanBeWritten, Next, one, none_as, missing, with_args, with_code, with_number, next_at, then_by, ops_at, with_ops, judged, compound_of, NoArgs, IsBehind, EndsAfter, HasEnd, IsCompound}
-use Rattle.nm_args.proofs.PartItems.{text_item}
+use Rattle.nm_args.specs.Compounds.{Next, one, none_as, missing, with_args, with_code, with_number, next_at, then_by, ops_at, NoArgs, IsBehind}
 use Rattle.nm_args.proofs.OpItems.{number_small, code_back, code_found, args_found, args_again}
 
 -- ---- The next operation

@@ -1,8 +1,8 @@
 -- The reading and the spelling of the arguments of operations on files' contents, on names and on clients belong together, one line a field.
-use Rattle.std.proofs.Common.{◌≡◌, ℕ, ◌^◌, ◌≤◌, ◌<◌, List, [], ◌∷◌, ◌++◌, length, Option, Some, Result, Ok, Err, refl, sym, ap, subst, ◌∙◌, arith}
+use Rattle.std.proofs.Common.{◌≡◌, ℕ, ◌^◌, ◌<◌, List, [], ◌∷◌, ◌++◌, Some, Ok, refl, sym, ap, subst, ◌∙◌, arith}
 use Rattle.std.proofs.lemmas.List.{append-nil}
-use Rattle.nm_xdr.specs.Fields.{Reading, made, IsBytes, IsItem}
-use Rattle.nm_xdr.specs.Items.{word, hyper, opaque, enum_at}
+use Rattle.nm_xdr.specs.Fields.{made, IsBytes, IsItem}
+use Rattle.nm_xdr.specs.Items.{word, opaque, enum_at}
 use Rattle.nm_xdr.proofs.FieldLaws.{field_part, made_part, record_item, fits_as, spelled_as, union_item, same_value}
 use Rattle.nm_xdr.proofs.ItemLaws.{word_item, hyper_item, opaque_item, enum_item}
 use Rattle.nm_rules.specs.declared.args.AccessArgs.{AccessArgs}
@@ -26,7 +26,7 @@ use Rattle.nm_attrs.proofs.MadeLaws.{made_found, made_again}
 use Rattle.nm_args.specs.declared.op.RenameArgs.{RenameArgs}
 use Rattle.nm_args.specs.declared.op.SetClientIdArgs.{SetClientIdArgs}
 use Rattle.nm_args.specs.declared.op.SetClientIdConfirmArgs.{SetClientIdConfirmArgs}
-use Rattle.nm_args.specs.Parts.{IsWord, IsHyper, IsName, IsStateRef}
+use Rattle.nm_args.specs.Parts.{IsWord, IsName, IsStateRef}
 use Rattle.nm_args.specs.Data.{access, access_at, commit, commit_at, IsCommit, deleg_return, deleg_return_at, get_attr, get_attr_at, reading, reading_at, IsReading, set_attr, set_attr_at, IsSetAttr, writing, writing_at, IsWriting}
 use Rattle.nm_args.specs.Names.{Kind, file, directory, block, character, link, socket, fifo, attribute_directory, named_attribute, kind_number, kind_of, kind, device, device_at, IsDevice, kind_arm, kind_arm_at, create_type, create_type_at, IsCreateType, create, create_at, IsCreate, lookup, lookup_at, remove, remove_at, read_dir, read_dir_at, IsReadDir, rename, rename_at, IsRename}
 use Rattle.nm_args.specs.Clients.{set_client, set_client_at, IsSetClient, confirm_client, confirm_client_at, IsConfirmClient}

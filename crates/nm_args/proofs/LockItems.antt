@@ -1,8 +1,7 @@
 -- The reading and the spelling of the arguments of operations on byte-range locks belong together, one line a field.
-use Rattle.std.proofs.Common.{◌≡◌, ℕ, ◌^◌, ◌≤◌, ◌<◌, Bool, true, false, List, [], ◌∷◌, ◌++◌, length, Result, Ok, Err, refl, sym, ap, subst, ◌∙◌, arith}
-use Rattle.nm_xdr.specs.Fields.{Reading, IsBytes, IsItem}
-use Rattle.nm_xdr.specs.Items.{word, hyper, flag, opaque}
-use Rattle.nm_xdr.proofs.FieldLaws.{field_part, made_part, made_where, record_item, fits_as, union_item}
+use Rattle.std.proofs.Common.{◌≡◌, ℕ, Bool, true, false, List, ◌++◌, Ok, refl, sym, ap, subst, ◌∙◌}
+use Rattle.nm_xdr.specs.Fields.{IsBytes, IsItem}
+use Rattle.nm_xdr.proofs.FieldLaws.{field_part, made_part, record_item, fits_as, union_item}
 use Rattle.nm_xdr.proofs.ItemLaws.{word_item, hyper_item, flag_item}
 use Rattle.nm_rules.specs.declared.args.Locker.{Locker}
 use Rattle.nm_rules.specs.declared.args.Locker.TheVariants.{New, Known}

@@ -9,7 +9,7 @@ use Rattle.nm_attrs.specs.declared.fault.ReadFault.TheVariants as item
 use Rattle.nm_args.specs.declared.op.Op.{Op}
 use Rattle.nm_args.specs.declared.compound.CompoundEnd.{CompoundEnd}
 use Rattle.nm_args.specs.declared.compound.CompoundEnd.TheVariants.{Clean}
-use Rattle.nm_args.specs.Compounds.{Next, one, none_as, missing, next_at, then_by, ops_at, as_garbage, IsGarbage, IsRefused}
+use Rattle.nm_args.specs.Compounds.{Next, one, none_as, next_at, then_by, ops_at, as_garbage, IsGarbage, IsRefused}
 use Rattle.nm_args.specs.Steps.{IsMissing}
 
 abbrev Read : Type 0

@@ -1,15 +1,15 @@
 -- The reading and the spelling of each operation belong together.
-use Rattle.std.proofs.Common.{◌≡◌, ℕ, ◌^◌, ◌≤◌, ◌<◌, List, [], ◌∷◌, ◌++◌, length, Option, Some, None, Result, Ok, Err, refl, sym, ap, subst, ◌∙◌, append_assoc, arith}
-use Rattle.nm_xdr.specs.Fields.{Fault, made, IsBytes, IsItem}
-use Rattle.nm_xdr.specs.Items.{word, opaque, word_at}
-use Rattle.nm_xdr.proofs.FieldLaws.{same_value, IsBytes-behind}
-use Rattle.nm_xdr.proofs.ItemLaws.{word_item, hyper_item, flag_item, opaque_item}
+use Rattle.std.proofs.Common.{◌≡◌, ℕ, ◌^◌, ◌≤◌, ◌<◌, List, [], ◌++◌, length, Some, Ok, refl, sym, ap, subst, ◌∙◌, arith}
+use Rattle.nm_xdr.specs.Fields.{made, IsBytes, IsItem}
+use Rattle.nm_xdr.specs.Items.{opaque}
+use Rattle.nm_xdr.proofs.FieldLaws.{same_value}
+use Rattle.nm_xdr.proofs.ItemLaws.{hyper_item, flag_item, opaque_item}
 use Rattle.nm_attrs.proofs.MadeLaws.{made_found, made_again}
 use Rattle.nm_args.specs.declared.op.Op.{Op}
 use Rattle.nm_args.specs.declared.op.Op.TheVariants as op
 use Rattle.nm_args.specs.declared.op.OpCode.{OpCode}
 use Rattle.nm_args.specs.declared.op.OpCode.TheVariants as code
-use Rattle.nm_args.specs.Operations.{number_of, codes, code_of_number, code_of, handle_at, args_at, args, IsOp, operation}
+use Rattle.nm_args.specs.Operations.{number_of, codes, code_of_number, code_of, handle_at, args_at, args, IsOp}
 use Rattle.nm_args.proofs.PartItems.{name_item, number_found, fattr_item}
 use Rattle.nm_args.proofs.OpenItems.{close_item, opening_item, confirm_item, downgrade_item}
 use Rattle.nm_args.proofs.LockItems.{locking_item, lock_test_item, unlock_item, release_item}

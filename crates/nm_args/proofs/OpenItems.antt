@@ -1,10 +1,10 @@
 -- The reading and the spelling of the arguments of operations on opens belong together, one line a field.
-use Rattle.std.proofs.Common.{◌≡◌, ℕ, ◌^◌, ◌≤◌, ◌<◌, Bool, true, false, List, [], ◌∷◌, ◌++◌, length, Option, Some, None, Result, Ok, Err, refl, sym, ap, subst, ◌∙◌, arith}
+use Rattle.std.proofs.Common.{◌≡◌, ℕ, ◌^◌, ◌<◌, List, [], ◌∷◌, ◌++◌, Some, Ok, refl, sym, ap, subst, arith}
 use Rattle.std.proofs.lemmas.List.{append-nil}
-use Rattle.nm_xdr.specs.Fields.{Reading, field, made, IsBytes, IsItem}
-use Rattle.nm_xdr.specs.Items.{word, hyper, flag, opaque, word_at, hyper_at, flag_at, opaque_at, enum_at}
+use Rattle.nm_xdr.specs.Fields.{field, made, IsBytes, IsItem}
+use Rattle.nm_xdr.specs.Items.{word, opaque, enum_at}
 use Rattle.nm_xdr.proofs.FieldLaws.{field_part, made_part, record_item, fits_as, spelled_as, union_item, same_value}
-use Rattle.nm_xdr.proofs.ItemLaws.{word_item, hyper_item, flag_item, opaque_item, enum_item}
+use Rattle.nm_xdr.proofs.ItemLaws.{word_item, hyper_item, enum_item}
 use Rattle.nm_rules.specs.declared.calls.StateRef.{StateRef}
 use Rattle.nm_rules.specs.declared.calls.CloseArgs.{CloseArgs}
 use Rattle.nm_rules.specs.declared.args.OpenType.{OpenType}
@@ -16,7 +16,7 @@ use Rattle.nm_rules.specs.declared.args.OpenDowngradeArgs.{OpenDowngradeArgs}
 use Rattle.nm_rules.specs.Wire.{stateid_bytes}
 use Rattle.nm_attrs.proofs.MadeLaws.{made_found, made_again}
 use Rattle.nm_args.specs.declared.op.OwnedOpen.{OwnedOpen}
-use Rattle.nm_args.specs.Parts.{IsWord, IsHyper, name_at, IsName, text_at, stateid_at, IsStateRef, fattr_at, AreAttributes}
+use Rattle.nm_args.specs.Parts.{IsName, IsStateRef}
 use Rattle.nm_args.specs.Opens.{close, close_at, IsClose, Mode, unchecked, guarded, exclusive, mode_number, mode_of, mode, how, how_at, Making, not_made, is_made, making_number, making_of, making, made_how, made_how_at, open_type, open_type_at, IsOpenType, Claiming, by_name, by_previous, by_delegation, by_earlier_delegation, claiming_number, claiming_of, claiming, claimed, claimed_at, delegated_at, claim, claim_at, IsClaim, opening, opening_at, IsOpening, confirm, confirm_at, IsConfirm, downgrade, downgrade_at, IsDowngrade}
 use Rattle.nm_args.proofs.PartItems.{name_item, text_item, number_found, fattr_item, stateid_item}
 

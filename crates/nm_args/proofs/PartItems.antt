@@ -1,11 +1,11 @@
 -- The reading and the spelling of the items that several operations have belong together.
-use Rattle.std.proofs.Common.{◌≡◌, ℕ, ◌+◌, ◌-◌, ◌^◌, ◌≤◌, ◌<◌, Bool, true, false, cond, eqb, ◌&&◌, List, [], ◌∷◌, ◌++◌, length, take, drop, replicate, Option, Some, None, Result, Ok, Err, refl, sym, ap, subst, ◌∙◌, append_assoc, arith, inl, inr}
+use Rattle.std.proofs.Common.{◌≡◌, ℕ, ◌+◌, ◌^◌, ◌<◌, Bool, true, false, cond, eqb, List, [], ◌∷◌, ◌++◌, length, drop, replicate, Some, Result, Ok, refl, sym, ap, subst, ◌∙◌, append_assoc, arith, inl, inr}
 use Rattle.std.specs.List.{find}
 use Rattle.std.proofs.lemmas.Bool.{cases_lt, eqb-true}
 use Rattle.std.proofs.lemmas.List.{append-nil, get_or_past, get_or-drop, get_or_append_left}
 use Rattle.std.proofs.lemmas.Nat.{from_be_bytes-to_be_bytes_4, from_be_bytes-to_be_bytes_8}
-use Rattle.nm_xdr.specs.Fields.{Fault, Reading, ◌>>=◌, field, made, IsBytes, IsItem}
-use Rattle.nm_xdr.specs.Items.{word, hyper, padding_of, fixed, opaque, word_at, fixed_at, opaque_at, enum_at}
+use Rattle.nm_xdr.specs.Fields.{Fault, ◌>>=◌, field, made, IsBytes, IsItem}
+use Rattle.nm_xdr.specs.Items.{word, hyper, padding_of, fixed, opaque, word_at, fixed_at}
 use Rattle.nm_xdr.proofs.FieldLaws.{field_part, made_part, record_item, fits_as, bind_ok, same_value, IsBytes-behind}
 use Rattle.nm_xdr.proofs.ItemLaws.{word_item, fixed_item, opaque_item, enum_item}
 use Rattle.nm_rules.specs.declared.calls.StateId.{StateId}
@@ -16,9 +16,8 @@ use Rattle.nm_rules.specs.declared.args.LockType.{LockType}
 use Rattle.nm_rules.specs.declared.args.LockType.TheVariants as lock
 use Rattle.nm_rules.specs.declared.args.Stable.{Stable}
 use Rattle.nm_rules.specs.declared.args.Stable.TheVariants as stable
-use Rattle.nm_rules.specs.Wire.{word as rule_word, hyper as rule_hyper, word_in, hyper_in, other_bytes, is_zeros, is_ones, stateid_bytes, stateid_from, stateid_of}
+use Rattle.nm_rules.specs.Wire.{word as rule_word, hyper as rule_hyper, word_in, hyper_in, other_bytes, is_zeros, is_ones, stateid_bytes, stateid_of}
 use Rattle.nm_rules.proofs.WireLaws.{stateid_written}
-use Rattle.nm_attrs.specs.Bitmaps.{bitmap}
 use Rattle.nm_attrs.proofs.ValueLaws.{bitmap_item}
 use Rattle.nm_args.specs.Parts.{IsWord, IsHyper, name_at, IsName, text_at, IsText, stateid_at, IsNamed, IsStateRef, fattr, fattr_at, AreAttributes, lock_number, lock_of, lock_type_at, stable_number, stable_of, stable_at}
 

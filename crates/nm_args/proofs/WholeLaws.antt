@@ -1,8 +1,7 @@
 -- The whole of a compound: its tag, its minor version, its count, and what they are judged by.
-use Rattle.std.proofs.Common.{◌≡◌, ◌≢◌, ℕ, zero, suc, ◌+◌, ◌-◌, ◌^◌, ◌≤◌, ◌<◌, Bool, true, false, not, cond, eqb, ltb, List, [], ◌∷◌, ◌++◌, length, Result, Ok, Err, All, refl, sym, ap, subst, ◌∙◌, append_assoc, arith}
+use Rattle.std.proofs.Common.{◌≡◌, ◌≢◌, ℕ, ◌^◌, ◌≤◌, ◌<◌, Bool, true, false, not, cond, eqb, ltb, List, [], ◌++◌, length, Result, Ok, Err, refl, sym, ap, subst, ◌∙◌, append_assoc, arith}
 use Rattle.std.specs.List.{flat_map, AllByRecursion}
 use Rattle.std.proofs.lemmas.Bool.{eqb-true, eqb-false, ne_eqb, ltb-true, ltb-false, lt-ltb, le-ltb}
-use Rattle.std.proofs.lemmas.List.{append-nil}
 use Rattle.std.proofs.lemmas.List.Elements.{All-from_recursion, recursion_from_All}
 use Rattle.nm_xdr.specs.Fields.{Fault, ◌>>=◌, IsBytes, IsItem}
 use Rattle.nm_xdr.specs.Items.{word, opaque, word_at}
@@ -12,7 +11,7 @@ use Rattle.nm_args.specs.declared.op.Op.{Op}
 use Rattle.nm_args.specs.declared.compound.Compound.{Compound}
 use Rattle.nm_args.specs.declared.compound.CompoundEnd.{CompoundEnd}
 use Rattle.nm_args.specs.declared.compound.CompoundEnd.TheVariants.{Clean, Minor, TooMany, BadXdr, Illegal}
-use Rattle.nm_args.specs.Parts.{IsWord, text_at, IsText}
+use Rattle.nm_args.specs.Parts.{text_at, IsText}
 use Rattle.nm_args.specs.Operations.{IsOp, operation}
 use Rattle.nm_args.specs.Compounds.{or_missing, tag_at, compound, CanBeWritten, ops_at, with_ops, judged, compound_of, IsBehind, EndsAfter, HasEnd, IsCompound}
 use Rattle.nm_args.proofs.PartItems.{text_item}

@@ -1,5 +1,5 @@
 -- The arguments of operations on clients (RFC 7531). A verifier's 8 bytes are read as one number.
-use Rattle.std.specs.Prelude.{ℕ, List, [], ◌∷◌, ◌++◌}
+use Rattle.std.specs.Prelude.{ℕ, List, [], ◌∷◌}
 use Rattle.nm_xdr.specs.Fields.{Reading, field, made}
 use Rattle.nm_xdr.specs.Items.{word, hyper, opaque, structure, word_at, hyper_at}
 use Rattle.nm_args.specs.declared.op.SetClientIdArgs.{SetClientIdArgs}

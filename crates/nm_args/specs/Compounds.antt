@@ -1,10 +1,9 @@
 -- The arguments of COMPOUND (RFC 7530, 15.2; RFC 7531, COMPOUND4args): their layout, and what is read of any bytes.
-use Rattle.std.specs.Prelude.{◌≡◌, ◌≢◌, ℕ, zero, suc, ◌+◌, ◌≤◌, ◌<◌, Bool, ◌==◌, not, nat_lt, List, [], ◌∷◌, ◌++◌, length, All, Option, Some, None, Result, Ok, Err, if◌then◌else◌}
+use Rattle.std.specs.Prelude.{◌≡◌, ◌≢◌, ℕ, zero, suc, ◌+◌, ◌≤◌, ◌<◌, ◌==◌, not, nat_lt, List, [], ◌∷◌, ◌++◌, length, All, Option, Some, None, Result, Ok, Err, if◌then◌else◌}
 use Rattle.std.specs.List.{flat_map}
-use Rattle.nm_xdr.specs.declared.fault.XdrFault.{XdrFault}
 use Rattle.nm_xdr.specs.Fields.{short, Fault, Reading, fault_at, ◌>>=◌, ended}
 use Rattle.nm_xdr.specs.Items.{word, opaque, counted, structure, word_at}
-use Rattle.nm_xdr.specs.Places.{Spot, end_of, fault_of, place_of}
+use Rattle.nm_xdr.specs.Places.{place_of}
 use Rattle.nm_attrs.specs.declared.fault.ReadFault.{ReadFault}
 use Rattle.nm_attrs.specs.declared.fault.ReadFault.TheVariants as item
 use Rattle.nm_args.specs.declared.op.Op.{Op}
@@ -15,7 +14,7 @@ use Rattle.nm_args.specs.declared.compound.CompoundEnd.TheVariants.{Clean, Minor
 use Rattle.nm_args.specs.declared.compound.ArgsFault.{ArgsFault}
 use Rattle.nm_args.specs.declared.compound.ArgsFault.TheVariants as fault
 use Rattle.nm_args.specs.Parts.{IsWord, text_at, IsText}
-use Rattle.nm_args.specs.Operations.{code_of_number, code_of, number_of, args_at, args, IsOp, operation}
+use Rattle.nm_args.specs.Operations.{code_of_number, code_of, args_at, args, IsOp, operation}
 
 -- ---- Spelling
 

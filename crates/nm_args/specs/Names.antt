@@ -1,5 +1,5 @@
 -- The arguments of operations on names in directories (RFC 7531).
-use Rattle.std.specs.Prelude.{ℕ, ◌==◌, List, [], ◌∷◌, ◌++◌, find, Option}
+use Rattle.std.specs.Prelude.{ℕ, ◌==◌, List, [], ◌∷◌, find, Option}
 use Rattle.nm_xdr.specs.Fields.{Reading, field, made}
 use Rattle.nm_xdr.specs.Items.{word, hyper, opaque, structure, union, word_at, hyper_at, enum_at}
 use Rattle.nm_rules.specs.declared.args.Device.{Device}

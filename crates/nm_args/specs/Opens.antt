@@ -1,13 +1,13 @@
 -- The arguments of operations on opens (RFC 7531).
-use Rattle.std.specs.Prelude.{ℕ, Bool, true, false, ◌==◌, List, [], ◌∷◌, ◌++◌, find, Option}
+use Rattle.std.specs.Prelude.{ℕ, ◌==◌, List, [], ◌∷◌, ◌++◌, find, Option}
 use Rattle.nm_xdr.specs.Fields.{Reading, field, made}
 use Rattle.nm_xdr.specs.Items.{word, hyper, opaque, structure, union, word_at, hyper_at, enum_at}
+use Rattle.nm_rules.specs.declared.calls.StateRef.{StateRef}
 use Rattle.nm_rules.specs.declared.calls.CloseArgs.{CloseArgs}
 use Rattle.nm_rules.specs.declared.args.OpenType.{OpenType}
 use Rattle.nm_rules.specs.declared.args.OpenType.TheVariants.{NoCreate, Unchecked, Guarded, Exclusive}
 use Rattle.nm_rules.specs.declared.args.Claim.{Claim}
 use Rattle.nm_rules.specs.declared.args.Claim.TheVariants.{Null, Previous, DelegateCur, DelegatePrev}
-use Rattle.nm_rules.specs.declared.args.WireOpenArgs.{WireOpenArgs}
 use Rattle.nm_rules.specs.declared.args.OpenConfirmArgs.{OpenConfirmArgs}
 use Rattle.nm_rules.specs.declared.args.OpenDowngradeArgs.{OpenDowngradeArgs}
 use Rattle.nm_rules.specs.Wire.{stateid_bytes}
@@ -134,7 +134,7 @@ unfoldable pub claim : Claim → List ℕ
 claim c = union (word (claiming_number (claiming c))) (claimed c)
 
 -- a stateid and a name
-unfoldable pub delegated_at : Reading (Rattle.nm_rules.specs.declared.calls.StateRef.StateRef × List ℕ)
+unfoldable pub delegated_at : Reading (StateRef × List ℕ)
 delegated_at = field stateid_at (λ stateid. field name_at (λ name. made (stateid, name)))
 
 unfoldable pub claimed_at : Claiming → Reading Claim

@@ -1,7 +1,7 @@
 -- Items that several operations have (RFC 7531).
-use Rattle.std.specs.Prelude.{◌≡◌, ℕ, ◌^◌, ◌<◌, ◌≤◌, Bool, false, ◌==◌, List, [], ◌∷◌, ◌++◌, length, find, Option}
+use Rattle.std.specs.Prelude.{◌≡◌, ℕ, ◌^◌, ◌<◌, ◌≤◌, false, ◌==◌, List, [], ◌∷◌, length, find, Option}
 use Rattle.nm_xdr.specs.Fields.{Reading, field, made}
-use Rattle.nm_xdr.specs.Items.{word, opaque, structure, word_at, fixed_at, opaque_at, enum_at}
+use Rattle.nm_xdr.specs.Items.{opaque, structure, word_at, fixed_at, opaque_at, enum_at}
 use Rattle.nm_rules.specs.declared.calls.StateId.{StateId}
 use Rattle.nm_rules.specs.declared.calls.StateRef.{StateRef}
 use Rattle.nm_rules.specs.declared.calls.StateRef.TheVariants.{Zeros, Ones, Named}

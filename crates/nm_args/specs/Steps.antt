@@ -12,7 +12,7 @@ use Rattle.nm_args.specs.declared.compound.ArgsFault.{ArgsFault}
 use Rattle.nm_args.specs.declared.reading.Next.{Next as TakenNext}
 use Rattle.nm_args.specs.declared.reading.Next.TheVariants.{One, End}
 use Rattle.nm_args.specs.declared.reading.ReadOps.{ReadOps}
-use Rattle.nm_args.specs.Compounds.{Next, one, none_as, missing, next_at, IsRefused}
+use Rattle.nm_args.specs.Compounds.{one, none_as, missing, next_at, IsRefused}
 
 -- the operation n isn't read for this fault
 abbrev pub unread : ReadFault → ℕ → Result TakenNext ReadFault

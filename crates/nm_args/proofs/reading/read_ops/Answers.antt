@@ -1,5 +1,5 @@
 use Rattle.std.proofs.lemmas.Result.{err_from_is_err_and}
-use Rattle.std.proofs.Common.{subst, arith, ◌∙◌, sym}
+use Rattle.std.proofs.Common.{arith}
 use Rattle.nm_args.proofs.LoopLaws.{op_taken, ops_end, op_missing, ops_left_over, ops_clean}
 use Rattle.nm_args.proofs.reading.read_ops.Goals as goal
 
