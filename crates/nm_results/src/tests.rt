@@ -635,8 +635,8 @@ fn a_word_of_ones_is_told_or_is_another_value(rt: HostRuntime) -> Result<(), Fai
     let told = [
         (0, 0),
         (4, 4),
-        // the byte that pads the tag
-        (8, 11),
+        // the padding of the tag
+        (8, 4),
         // results without end: the second isn't there
         (12, 136),
         (16, 16),
@@ -649,9 +649,9 @@ fn a_word_of_ones_is_told_or_is_another_value(rt: HostRuntime) -> Result<(), Fai
         (76, 76),
         (96, 96),
         (100, 100),
-        // the length of the name in the ace, and the first byte that pads it
+        // the length of the name in the ace, and its padding
         (124, 124),
-        (132, 133),
+        (132, 124),
     ];
     for word in 0..34 {
         let mut bytes = Vec::from_slice(alloc, &open)?;
