@@ -5,3 +5,4 @@ pub mod MadeLaws
 pub mod MaskLaws
 pub mod RowLaws
 pub mod ValueLaws
+pub mod TestLaws

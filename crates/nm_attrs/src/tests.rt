@@ -1,3 +1,6 @@
+ghost use Rattle.std.specs.Prelude.{IfOk};
+ghost use Rattle.nm_attrs.specs.Attributes.{AreAttrs};
+
 use super::*;
 use nm_rules::{Bytes, Items};
 use nm_xdr::{Cursor, Writer, XdrFault};
@@ -105,52 +108,49 @@ fn each_attribute_is_read_of_its_bytes(rt: HostRuntime) -> Result<(), Fail> {
     Ok(())
 }
 
+/// A size of 5 and the mode 0644.
+#[tactic(auto, using(crate::proofs::TestLaws::size_and_mode_are))]
+fn size_and_mode(alloc: Global) -> Result<Attrs, Fail>
+    ensures { IfOk result (λ attrs. AreAttrs attrs) }
+{
+    let mut attrs = Attrs::new(alloc);
+    attrs.push(Attr {
+        bit: 4,
+        value: AttrValue::U64(5),
+    })?;
+    attrs.push(Attr {
+        bit: 33,
+        value: AttrValue::U32(0o644),
+    })?;
+    Ok(attrs)
+}
+
 #[test]
 fn attributes_are_written_behind_their_bitmap(rt: HostRuntime) -> Result<(), Fail> {
     let alloc = rt.alloc();
     let mut writer = Writer::new(alloc);
     writer.put_u32(7)?;
-    write_fattr(alloc, &all_attributes(alloc)?, &mut writer)?;
-    let bytes = writer.finish();
-    let head = [
-        0, 0, 0, 7, 0, 0, 0, 2, 0x01, 0x18, 0x0f, 0xff, 0, 0, 0, 2, 0, 0, 0, 144,
+    write_fattr(alloc, &size_and_mode(alloc)?, &mut writer)?;
+    let want = [
+        0, 0, 0, 7, 0, 0, 0, 2, 0, 0, 0, 0x10, 0, 0, 0, 2, 0, 0, 0, 12, 0, 0, 0, 0, 0, 0, 0, 5, 0, 0,
+        1, 0xa4,
     ];
-    assert_eq!(rt; bytes.get(..20).ok_or("a head")?, head.as_slice());
-    assert_eq!(rt; bytes.get(20..).ok_or("values")?, VALUES.as_slice());
+    assert_eq!(rt; writer.finish().as_slice(), want.as_slice());
     Ok(())
 }
 
 #[test]
-fn a_last_word_of_0_isnt_written(rt: HostRuntime) -> Result<(), Fail> {
+fn a_bitmap_of_numbers_has_no_last_word_of_0(rt: HostRuntime) -> Result<(), Fail> {
     let alloc = rt.alloc();
-    let cases: [(&[(u32, AttrValue)], &[u8]); 3] = [
-        (&[], &[0, 0, 0, 0, 0, 0, 0, 0]),
-        (
-            &[(4, AttrValue::U64(5))],
-            &[
-                0, 0, 0, 1, 0, 0, 0, 0x10, 0, 0, 0, 8, 0, 0, 0, 0, 0, 0, 0, 5,
-            ],
-        ),
-        (
-            &[(33, AttrValue::U32(0o755))],
-            &[
-                0, 0, 0, 2, 0, 0, 0, 0, 0, 0, 0, 2, 0, 0, 0, 4, 0, 0, 1, 0xed,
-            ],
-        ),
+    let cases: [(u64, &[u32]); 4] = [
+        (0, &[]),
+        (0x10, &[0x10]),
+        (1 << 33, &[0, 2]),
+        (0x2_0118_0fff, &WORDS),
     ];
-    for (values, want) in cases {
-        let mut attrs = Attrs::new(alloc);
-        for (bit, value) in values {
-            let value = match value {
-                AttrValue::U64(n) => AttrValue::U64(*n),
-                AttrValue::U32(n) => AttrValue::U32(*n),
-                _ => AttrValue::Bool(false),
-            };
-            attrs.push(Attr { bit: *bit, value })?;
-        }
-        let mut writer = Writer::new(alloc);
-        write_fattr(alloc, &attrs, &mut writer)?;
-        assert_eq!(rt; writer.finish().as_slice(), want);
+    for (mask, words) in cases {
+        let bitmap = Bitmap::of_mask(alloc, mask)?;
+        assert_eq!(rt; bitmap.items(), words, "mask {mask}");
     }
     Ok(())
 }

@@ -14,7 +14,7 @@ use Rattle.nm_rules.specs.declared.results.AccessOk.{AccessOk}
 use Rattle.nm_rules.specs.declared.results.ReadOk.{ReadOk}
 use Rattle.nm_rules.specs.declared.results.WriteOk.{WriteOk}
 use Rattle.nm_rules.specs.declared.results.LockKind.{LockKind}
-use Rattle.nm_results.specs.declared.values.Fattr.{Fattr}
+use Rattle.nm_rules.specs.declared.args.Fattr.{Fattr}
 use Rattle.nm_results.specs.declared.values.SetClientIdOk.{SetClientIdOk}
 use Rattle.nm_results.specs.declared.values.ClientAddress.{ClientAddress}
 use Rattle.nm_results.specs.Parts.{enough, or_missing, bytes_at, other, other_at, stateid, stateid_at, IsStateId, AnyChange, change, change_at, IsChange, fattr, fattr_at, IsFattr}

@@ -5,7 +5,7 @@ use Rattle.nm_xdr.specs.Items.{word, hyper, flag, opaque, structure, word_at, hy
 use Rattle.nm_attrs.specs.Bitmaps.{bitmap, bitmap_at, IsBitmap}
 use Rattle.nm_rules.specs.declared.calls.StateId.{StateId}
 use Rattle.nm_rules.specs.declared.results.ChangeInfo.{ChangeInfo}
-use Rattle.nm_results.specs.declared.values.Fattr.{Fattr}
+use Rattle.nm_rules.specs.declared.args.Fattr.{Fattr}
 
 -- Where fewer than n bytes are left, all of the item is missing.
 abbrev pub enough : {X : Type 0} → ℕ → Reading X → Reading X

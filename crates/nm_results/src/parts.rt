@@ -5,9 +5,8 @@ ghost use Rattle.nm_attrs.specs.Bitmaps.{bitmap_at};
 ghost use Rattle.nm_attrs.specs.Takes.{Takes};
 ghost use Rattle.nm_results.specs.Parts.{bytes_at, other_at, stateid_at, stateid, change_at, change, written_change, fattr_at, fattr, IsFattr};
 
-use crate::Fattr;
 use nm_attrs::{ReadFault, put_bitmap, take_bitmap};
-use nm_rules::{Bytes, ChangeInfo, Items, StateId};
+use nm_rules::{Bytes, ChangeInfo, Fattr, StateId, Words};
 use nm_xdr::{Cursor, Memory, Writer, XdrFault};
 use std::alloc::Global;
 
@@ -89,7 +88,7 @@ pub(crate) fn take_bytes(
 }
 
 /// Takes the words of a bitmap.
-pub(crate) fn take_words(alloc: Global, cursor: &mut Cursor<'_>) -> Result<Items<u32>, ReadFault>
+pub(crate) fn take_words(alloc: Global, cursor: &mut Cursor<'_>) -> Result<Words, ReadFault>
     ensures { Takes bitmap_at cursor.old result cursor.new }
 {
     Ok(take_bitmap(alloc, cursor)?.into_words())

@@ -1,7 +1,7 @@
 use super::*;
 use nm_rules::{
-    AccessOk, Bytes, ChangeInfo, CreateOk, Items, LockKind, OpStatus, OpenDelegation, OpenOk,
-    ReadOk, StateId, WriteOk,
+    AccessOk, Bytes, ChangeInfo, CreateOk, Fattr, Items, LockKind, OpStatus, OpenDelegation,
+    OpenOk, ReadOk, StateId, WriteOk,
 };
 use std::alloc::Global;
 use std::test::Fail;

@@ -2,6 +2,7 @@
 #![tactic(auto)]
 
 mod action;
+mod args;
 mod calls;
 mod instance;
 mod items;
@@ -17,6 +18,12 @@ mod tests;
 mod wire;
 
 pub use action::{Action, CloseAction, OpenAction, Verb};
+pub use args::{
+    AccessArgs, Claim, CommitArgs, CreateArgs, CreateType, DelegReturnArgs, Device, Fattr,
+    GetAttrArgs, LockArgs, LockTestArgs, LockType, Locker, LookupArgs, OpenConfirmArgs,
+    OpenDowngradeArgs, OpenType, ReadArgs, ReadDirArgs, ReleaseLockOwnerArgs, RemoveArgs,
+    SetAttrArgs, Stable, UnlockArgs, WireOpenArgs, Words, WriteArgs,
+};
 pub use calls::{
     Call, CloseArgs, Deed, Entry, Event, OpenArgs, OpenClaim, OpenHow, Opened, Owner, OwnerKind,
     Recall, Recalls, Reply, ReplyValue, StateId, StateRef, Verdict,

@@ -1,0 +1,8 @@
+use Rattle.nm_args.proofs.WholeLaws.{compound_found, compound_again}
+use Rattle.nm_args.proofs.laws.compounds_are_read_as_spelled.Goals as goal
+
+pub returns-clause-found : goal.returns-clause-found
+returns-clause-found c = compound_found
+
+pub returns-clause-again : goal.returns-clause-again
+returns-clause-again c = compound_again

@@ -1,0 +1,9 @@
+pub mod Clients
+pub mod Compounds
+pub mod Data
+pub mod Locks
+pub mod Names
+pub mod Opens
+pub mod Operations
+pub mod Parts
+pub mod Steps

@@ -1,0 +1,40 @@
+//! The arguments of COMPOUND (RFC 7530, 15.2; RFC 7531), read and written: every operation of NFSv4.0.
+//!
+//! [`read_compound`] answers a compound exactly where bytes are its arguments: the operations that can be read, and how they
+//! end. A number that no operation has and arguments that can't be read are ends, since what stands before them is carried
+//! out; what can't be told apart from other bytes is garbage, at its place. What [`write_compound`] writes is read again as
+//! what was written.
+//!
+//! `specs/Operations` is the table of operations: their numbers, and how the arguments of each are read and spelled, by the
+//! layouts of `specs/Opens`, `Locks`, `Data`, `Names` and `Clients`. `specs/Compounds` says what is read of any bytes, and
+//! what a compound is apart from how it is read.
+#![tactic(auto)]
+
+mod clients;
+mod compound;
+mod data;
+mod laws;
+mod locks;
+mod names;
+mod op;
+mod opens;
+mod operations;
+mod parts;
+mod reading;
+#[cfg(test)]
+mod tests;
+#[cfg(test)]
+mod vectors;
+mod writing;
+
+pub use compound::{ArgsFault, Compound, CompoundEnd};
+pub use laws::{
+    arguments_are_read_as_spelled, clean_compounds_can_be_written, compounds_are_read_as_spelled,
+    compounds_are_read_as_written,
+};
+pub use op::{
+    Op, OpCode, Ops, OwnedLock, OwnedLockTest, OwnedLocker, OwnedOpen, OwnedRelease, RenameArgs,
+    SetClientIdArgs, SetClientIdConfirmArgs,
+};
+pub use reading::read_compound;
+pub use writing::write_compound;

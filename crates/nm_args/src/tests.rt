@@ -1,0 +1,319 @@
+use super::*;
+use crate::vectors::VECTORS;
+use std::alloc::Global;
+use std::test::Fail;
+
+/// The bytes of hexadecimal digits.
+fn bytes_of(alloc: Global, digits: &str) -> Result<Vec<u8>, Fail> {
+    let mut bytes = Vec::new(alloc);
+    let mut high = None;
+    for digit in digits.bytes() {
+        let value = match digit {
+            b'0'..=b'9' => digit - b'0',
+            b'a'..=b'f' => digit - b'a' + 10,
+            _ => return Err("a digit".into()),
+        };
+        match high {
+            None => high = Some(value),
+            Some(first) => {
+                bytes.push(first << 4 | value)?;
+                high = None;
+            }
+        }
+    }
+    Ok(bytes)
+}
+
+/// What is written of a compound that is read to a clean end.
+#[tactic(auto, using(crate::proofs::WholeLaws::compound_clean))]
+fn rewritten(alloc: Global, bytes: &[u8]) -> Result<Vec<u8>, Fail> {
+    let compound = match read_compound(alloc, bytes) {
+        Ok(compound) => compound,
+        Err(_) => return Err("a compound".into()),
+    };
+    match compound.end {
+        CompoundEnd::Clean => Ok(write_compound(alloc, &compound)?),
+        _ => Err("a clean end".into()),
+    }
+}
+
+/// How many operations are read, and how they end.
+fn outline(alloc: Global, bytes: &[u8]) -> Result<(usize, CompoundEnd), ArgsFault> {
+    let compound = read_compound(alloc, bytes)?;
+    Ok((compound.ops.items().len(), compound.end))
+}
+
+#[test]
+fn what_another_codec_encodes_is_read_and_written_so(rt: HostRuntime) -> Result<(), Fail> {
+    let alloc = rt.alloc();
+    for (name, digits) in VECTORS {
+        let bytes = bytes_of(alloc, digits)?;
+        let again = rewritten(alloc, &bytes)?;
+        assert_eq!(rt; again.as_slice(), bytes.as_slice(), "{name}");
+    }
+    Ok(())
+}
+
+#[test]
+fn the_worked_words_end_as_they_should(rt: HostRuntime) -> Result<(), Fail> {
+    let alloc = rt.alloc();
+    let cases: [(&str, Result<(usize, CompoundEnd), ArgsFault>); 9] = [
+        (
+            "00000000000000000000000100000018",
+            Ok((1, CompoundEnd::Clean)),
+        ),
+        (
+            "0000000000000000000000010000001800000000",
+            Err(ArgsFault::GarbageAt { at: 16 }),
+        ),
+        (
+            "000000000000000000000001",
+            Err(ArgsFault::GarbageAt { at: 12 }),
+        ),
+        ("00000000000000000000", Err(ArgsFault::GarbageAt { at: 8 })),
+        (
+            "0000000000000000000000020000001800000002",
+            Ok((1, CompoundEnd::Illegal { number: 2 })),
+        ),
+        (
+            "0000000000000000000000010000000c00000005",
+            Ok((0, CompoundEnd::BadXdr { op: 12 })),
+        ),
+        ("000000000000000100000041", Ok((0, CompoundEnd::Minor))),
+        (
+            "00000000000000000000000100000021000000046e616d65",
+            Ok((1, CompoundEnd::Clean)),
+        ),
+        (
+            "000000000000000000000041",
+            Ok((0, CompoundEnd::TooMany { count: 65 })),
+        ),
+    ];
+    for (digits, want) in cases {
+        let bytes = bytes_of(alloc, digits)?;
+        assert_eq!(rt; outline(alloc, &bytes), want, "{digits}");
+    }
+    Ok(())
+}
+
+#[test]
+fn sixty_four_operations_are_read_and_sixty_five_arent(rt: HostRuntime) -> Result<(), Fail> {
+    let alloc = rt.alloc();
+    for (count, want) in [
+        (64, (64, CompoundEnd::Clean)),
+        (65, (0, CompoundEnd::TooMany { count: 65 })),
+    ] {
+        let mut bytes = vec![in alloc; 0; 11]?;
+        bytes.push(count)?;
+        for _ in 0..count {
+            bytes.extend_from_slice(&[0, 0, 0, 24])?;
+        }
+        assert_eq!(rt; outline(alloc, &bytes), Ok(want));
+    }
+    Ok(())
+}
+
+#[test]
+fn what_is_cut_ends_at_the_item_that_is_cut(rt: HostRuntime) -> Result<(), Fail> {
+    let alloc = rt.alloc();
+    for (name, digits) in VECTORS {
+        let bytes = bytes_of(alloc, digits)?;
+        let op = u32::from(*bytes.get(19).ok_or("a number")?);
+        for len in 0..bytes.len() {
+            let want = match len {
+                0..8 => Err(ArgsFault::GarbageAt { at: 0 }),
+                8..12 => Err(ArgsFault::GarbageAt { at: 8 }),
+                12..16 => Err(ArgsFault::GarbageAt { at: 12 }),
+                16..20 => Err(ArgsFault::GarbageAt { at: 16 }),
+                _ => Ok((0, CompoundEnd::BadXdr { op })),
+            };
+            let front = bytes.as_slice().get(..len).ok_or("a front")?;
+            assert_eq!(rt; outline(alloc, front), want, "{name} cut after {len}");
+        }
+    }
+    Ok(())
+}
+
+#[test]
+fn a_word_of_ones_is_read_or_ends_by_name(rt: HostRuntime) -> Result<(), Fail> {
+    let alloc = rt.alloc();
+    for (name, digits) in VECTORS {
+        let bytes = bytes_of(alloc, digits)?;
+        let op = u32::from(*bytes.get(19).ok_or("a number")?);
+        for word in 0..bytes.len() / 4 {
+            let mut other = bytes_of(alloc, digits)?;
+            let end = 4 * word + 4;
+            other
+                .as_mut_slice()
+                .get_mut(4 * word..end)
+                .ok_or("a word")?
+                .fill(0xff);
+            let told = outline(alloc, &other);
+            let named = match word {
+                0 | 1 => told == Err(ArgsFault::GarbageAt { at: 0 }),
+                2 => told == Ok((0, CompoundEnd::Minor)),
+                3 => told == Ok((0, CompoundEnd::TooMany { count: u32::MAX })),
+                4 => told == Ok((0, CompoundEnd::Illegal { number: u32::MAX })),
+                _ => {
+                    told == Ok((1, CompoundEnd::Clean))
+                        || told == Ok((0, CompoundEnd::BadXdr { op }))
+                }
+            };
+            assert!(rt; named, "{name}, word {word}");
+        }
+    }
+    Ok(())
+}
+
+/// Fields of some of these, as they were given to the other codec.
+const FIELDS: [(&str, &str); 20] = [
+    (
+        "CLOSE",
+        "Close(CloseArgs { seqid: 4, stateid: Named(StateId { seqid: 7, fs: 3, counter: 9 }) })",
+    ),
+    ("COMMIT", "Commit(CommitArgs { offset: 4096, count: 512 })"),
+    (
+        "CREATE-4",
+        "Create(CreateArgs { kind: Character(Device { major: 8, minor: 1 }), name: Items { items: [110, 97, 109, 101] }, attributes: Fattr { words: Items { items: [16, 2] }, values: Items { items: [0, 0, 0, 0, 0, 0, 0, 5, 0, 0, 1, 164] } } })",
+    ),
+    (
+        "CREATE-5",
+        "Create(CreateArgs { kind: Link(Items { items: [116, 111] }), name: Items { items: [110, 97, 109, 101] }, attributes: Fattr { words: Items { items: [16, 2] }, values: Items { items: [0, 0, 0, 0, 0, 0, 0, 5, 0, 0, 1, 164] } } })",
+    ),
+    (
+        "LOCK-1-new",
+        "Lock(OwnedLock { clientid: 5, args: LockArgs { kind: Read, reclaim: false, offset: 10, length: 18446744073709551615, locker: New { open_seqid: 2, stateid: Named(StateId { seqid: 7, fs: 3, counter: 9 }), lock_seqid: 1, owner: Items { items: [108, 111, 99, 107] } } } })",
+    ),
+    (
+        "LOCK-3-known",
+        "Lock(OwnedLock { clientid: 0, args: LockArgs { kind: ReadWait, reclaim: false, offset: 10, length: 18446744073709551615, locker: Known { stateid: Named(StateId { seqid: 7, fs: 3, counter: 9 }), lock_seqid: 6 } } })",
+    ),
+    (
+        "LOCKT",
+        "LockT(OwnedLockTest { clientid: 5, args: LockTestArgs { kind: Write, offset: 1, length: 2, owner: Items { items: [108, 111, 99, 107] } } })",
+    ),
+    (
+        "LOCKU",
+        "LockU(UnlockArgs { kind: Read, seqid: 3, stateid: Named(StateId { seqid: 7, fs: 3, counter: 9 }), offset: 1, length: 2 })",
+    ),
+    (
+        "OPEN-exclusive-null",
+        "Open(OwnedOpen { clientid: 72623859790382856, args: WireOpenArgs { seqid: 4, access: 3, deny: 1, owner: Items { items: [111, 119, 110, 101, 114] }, opentype: Exclusive(8531350866138588530), claim: Null(Items { items: [102, 105, 108, 101] }) } })",
+    ),
+    (
+        "OPEN-guarded-null",
+        "Open(OwnedOpen { clientid: 72623859790382856, args: WireOpenArgs { seqid: 4, access: 3, deny: 1, owner: Items { items: [111, 119, 110, 101, 114] }, opentype: Guarded(Fattr { words: Items { items: [16, 2] }, values: Items { items: [0, 0, 0, 0, 0, 0, 0, 5, 0, 0, 1, 164] } }), claim: Null(Items { items: [102, 105, 108, 101] }) } })",
+    ),
+    (
+        "OPEN-nocreate-previous",
+        "Open(OwnedOpen { clientid: 72623859790382856, args: WireOpenArgs { seqid: 4, access: 3, deny: 1, owner: Items { items: [111, 119, 110, 101, 114] }, opentype: NoCreate, claim: Previous(2) } })",
+    ),
+    (
+        "OPEN-nocreate-delegate-cur",
+        "Open(OwnedOpen { clientid: 72623859790382856, args: WireOpenArgs { seqid: 4, access: 3, deny: 1, owner: Items { items: [111, 119, 110, 101, 114] }, opentype: NoCreate, claim: DelegateCur { stateid: Named(StateId { seqid: 7, fs: 3, counter: 9 }), name: Items { items: [102, 105, 108, 101] } } } })",
+    ),
+    (
+        "OPEN_CONFIRM",
+        "OpenConfirm(OpenConfirmArgs { stateid: Named(StateId { seqid: 7, fs: 3, counter: 9 }), seqid: 5 })",
+    ),
+    (
+        "OPEN_DOWNGRADE",
+        "OpenDowngrade(OpenDowngradeArgs { stateid: Named(StateId { seqid: 7, fs: 3, counter: 9 }), seqid: 6, access: 1, deny: 2 })",
+    ),
+    (
+        "READ",
+        "Read(ReadArgs { stateid: Named(StateId { seqid: 7, fs: 3, counter: 9 }), offset: 8, count: 9 })",
+    ),
+    (
+        "READDIR",
+        "ReadDir(ReadDirArgs { cookie: 3, verifier: 7165068039290188577, dircount: 100, maxcount: 200, words: Items { items: [16, 2] } })",
+    ),
+    (
+        "RENAME",
+        "Rename(RenameArgs { from: Items { items: [111, 108, 100] }, to: Items { items: [110, 101, 119, 101, 114] } })",
+    ),
+    (
+        "SETCLIENTID",
+        "SetClientId(SetClientIdArgs { verifier: 8531350866138588530, id: Items { items: [110, 102, 115, 109, 111, 118, 101, 47, 67, 49] }, program: 1073741824, netid: Items { items: [116, 99, 112] }, addr: Items { items: [49, 50, 55, 46, 48, 46, 48, 46, 49, 46, 56, 46, 49] }, ident: 1 })",
+    ),
+    (
+        "SETCLIENTID_CONFIRM",
+        "SetClientIdConfirm(SetClientIdConfirmArgs { clientid: 5, verifier: 7165066918304574753 })",
+    ),
+    (
+        "WRITE-1",
+        "Write(WriteArgs { stateid: Named(StateId { seqid: 7, fs: 3, counter: 9 }), offset: 8, stable: DataSync, data: Items { items: [98, 121, 116, 101, 115] } })",
+    ),
+];
+
+#[test]
+fn fields_are_read_into_their_places(rt: HostRuntime) -> Result<(), Fail> {
+    let alloc = rt.alloc();
+    for (name, text) in FIELDS {
+        let mut told = String::new(alloc);
+        for (other, digits) in VECTORS {
+            if other == name {
+                let bytes = bytes_of(alloc, digits)?;
+                let compound = read_compound(alloc, &bytes).map_err(|_| "a compound")?;
+                let op = compound.ops.items().first().ok_or("an operation")?;
+                told = format!(in alloc; "{op:?}")?;
+            }
+        }
+        assert_eq!(rt; told.as_str(), text, "{name}");
+    }
+    Ok(())
+}
+
+#[test]
+fn numbers_outside_their_range_cant_be_read(rt: HostRuntime) -> Result<(), Fail> {
+    let alloc = rt.alloc();
+    // the vector, the place of a word in it, and a byte at its end that is one too few or too many
+    let cases = [
+        ("LOCK-2-known", 20, 0),
+        ("LOCK-2-known", 20, 5),
+        ("LOCK-2-known", 24, 2),
+        ("LOCKT", 20, 5),
+        ("LOCKU", 20, 0),
+        ("CREATE-1", 20, 0),
+        ("CREATE-1", 20, 10),
+        ("OPEN-nocreate-null", 52, 2),
+        ("OPEN-nocreate-null", 56, 4),
+        ("OPEN-unchecked-null", 56, 3),
+        ("OPENATTR", 20, 2),
+        ("WRITE-0", 44, 3),
+        ("GETATTR", 20, 9),
+        ("PUTFH", 20, 129),
+    ];
+    for (name, place, byte) in cases {
+        for (other, digits) in VECTORS {
+            if other == name {
+                let mut bytes = bytes_of(alloc, digits)?;
+                let op = u32::from(*bytes.get(19).ok_or("a number")?);
+                *bytes.get_mut(place + 3).ok_or("a byte")? = byte;
+                let told = outline(alloc, &bytes);
+                assert_eq!(rt; told, Ok((0, CompoundEnd::BadXdr { op })), "{name} {byte}");
+            }
+        }
+    }
+    Ok(())
+}
+
+#[test]
+fn lengths_may_be_their_limits(rt: HostRuntime) -> Result<(), Fail> {
+    let alloc = rt.alloc();
+    for (tag, handle, want) in [
+        (1024, 128, Ok((1, CompoundEnd::Clean))),
+        (1024, 132, Ok((0, CompoundEnd::BadXdr { op: 22 }))),
+        (1028, 128, Err(ArgsFault::GarbageAt { at: 0 })),
+    ] {
+        let mut bytes = Vec::new(alloc);
+        bytes.extend_from_slice(&u32::to_be_bytes(tag))?;
+        bytes.resize(bytes.len() + tag as usize, 0)?;
+        for word in [0, 1, 22, handle] {
+            bytes.extend_from_slice(&u32::to_be_bytes(word))?;
+        }
+        bytes.resize(bytes.len() + handle as usize, 0)?;
+        assert_eq!(rt; outline(alloc, &bytes), want, "{tag} {handle}");
+    }
+    Ok(())
+}
