@@ -13,7 +13,7 @@ use Rattle.nm_results.specs.declared.values.DirEntry.{DirEntry}
 use Rattle.nm_results.specs.declared.values.ReadDirOk.{ReadDirOk}
 use Rattle.nm_results.specs.Directories.{AnyCreate, create, create_at, create_of, IsAnyCreate, entry, entry_at, IsEntry, entries, behind_mark, entries_at, all_entries_at, dir_bytes, dir_at, IsDir}
 use Rattle.nm_results.proofs.KeepLaws.{KeepsItem, keeps_made, keeps_field, keeps_item, keeps_record, keeps_as}
-use Rattle.nm_results.proofs.PartLaws.{word_length, change_item, fattr_item}
+use Rattle.nm_results.proofs.PartLaws.{bytes_item, word_length, change_item, fattr_item}
 
 pub create_item : KeepsItem create_of create_at create IsAnyCreate
 unfolding create_at create
@@ -30,7 +30,7 @@ entry_item =
     fits_as IsEntry (λ e f. (f.cookie, (f.name, (f.attrs, tt)))) (λ e f. record { cookie = f.0; name = f.1.0; attrs = f.1.1.0 }) (
     record_item (
     field_part (λ (e : DirEntry). e.cookie) _ (λ _. hyper_item) (
-    field_part (λ (e : DirEntry). e.name) _ (λ _. opaque_item 1048576 (omega arith)) (
+    field_part (λ (e : DirEntry). e.name) _ (λ _. bytes_item 1048576 (omega arith)) (
     field_part (λ (e : DirEntry). e.attrs) _ (λ _. fattr_item) (
     made_part _ (λ _. refl) (λ _. refl))))))
 

@@ -13,7 +13,7 @@ use Rattle.nm_rules.specs.declared.results.OpenDelegation.TheVariants as delegat
 use Rattle.nm_results.specs.Parts.{stateid, IsStateId}
 use Rattle.nm_results.specs.Opens.{Ace, ace, IsAce, ace_behind, AnyDelegation, none, reads, writes, delegation_bytes, IsAnyDelegation, delegation_of, only_at, reads_at, writes_at, kind_at, delegation_as, delegation_at, AnyOpen, open_bytes, open_at, open_of, IsAnyOpen}
 use Rattle.nm_results.proofs.KeepLaws.{KeepsItem, keeps_made, keeps_field, keeps_item, keeps_record, keeps_as}
-use Rattle.nm_results.proofs.PartLaws.{stateid_item, change_item}
+use Rattle.nm_results.proofs.PartLaws.{bytes_item, stateid_item, change_item}
 
 -- ---- Delegations
 
@@ -43,7 +43,7 @@ reads_item =
     keeps_item (λ (r : Reads). r.2.kind) _ word_item (
     keeps_item (λ (r : Reads). r.2.flags) _ word_item (
     keeps_item (λ (r : Reads). r.2.mask) _ word_item (
-    keeps_item (λ (r : Reads). r.2.who) _ (opaque_item 1024 (omega arith)) (
+    keeps_item (λ (r : Reads). r.2.who) _ (bytes_item 1024 (omega arith)) (
     keeps_made (λ s. (s.0.0.0.0.0.1, s.0.0.0.0.1, record { kind = s.0.0.0.1; flags = s.0.0.1; mask = s.0.1; who = s.1 })) _ (λ _. refl) (λ _. refl) (λ _. refl)))))))))
 
 only_item : IsItem (only_at 1) word (λ n. n ≡ 1)
@@ -69,7 +69,7 @@ writes_item =
     keeps_item (λ (w : Writes). w.4.kind) _ word_item (
     keeps_item (λ (w : Writes). w.4.flags) _ word_item (
     keeps_item (λ (w : Writes). w.4.mask) _ word_item (
-    keeps_item (λ (w : Writes). w.4.who) _ (opaque_item 1024 (omega arith)) (
+    keeps_item (λ (w : Writes). w.4.who) _ (bytes_item 1024 (omega arith)) (
     keeps_made (λ s. (s.0.0.0.0.0.0.0.1, s.0.0.0.0.0.0.1, s.0.0.0.0.0.1, s.0.0.0.0.1, record { kind = s.0.0.0.1; flags = s.0.0.1; mask = s.0.1; who = s.1 })) _ (λ _. refl) (λ _. refl) (λ _. refl)))))))))))
 
 -- What a number chooses.

@@ -14,14 +14,28 @@ use Rattle.nm_rules.specs.declared.results.AccessOk.{AccessOk}
 use Rattle.nm_rules.specs.declared.results.ReadOk.{ReadOk}
 use Rattle.nm_rules.specs.declared.results.WriteOk.{WriteOk}
 use Rattle.nm_rules.specs.declared.results.LockKind.{LockKind}
-use Rattle.nm_results.specs.declared.values.Fattr.{Fattr}
+use Rattle.nm_rules.specs.declared.args.Fattr.{Fattr}
 use Rattle.nm_results.specs.declared.values.SetClientIdOk.{SetClientIdOk}
 use Rattle.nm_results.specs.declared.values.ClientAddress.{ClientAddress}
-use Rattle.nm_results.specs.Parts.{enough, other, other_at, stateid, stateid_at, IsStateId, AnyChange, change, change_at, IsChange, fattr, fattr_at, IsFattr}
+use Rattle.nm_results.specs.Parts.{enough, or_missing, bytes_at, other, other_at, stateid, stateid_at, IsStateId, AnyChange, change, change_at, IsChange, fattr, fattr_at, IsFattr}
 use Rattle.nm_results.specs.Contents.{access, access_at, IsAccess, read_bytes, read_at, IsRead, write_bytes, write_at, IsWrite}
 use Rattle.nm_results.specs.Clients.{client, client_at, IsClient, address, address_at, IsAddress}
 use Rattle.nm_results.specs.Locks.{kind_numbered, lock_kind_at, kind_of_number, AnyDenied, denied, denied_at, denied_of, IsAnyDenied}
 use Rattle.nm_results.proofs.KeepLaws.{KeepsItem, keeps_made, keeps_field, keeps_item, keeps_record, keeps_as}
+
+-- ---- Bytes
+
+-- what was read, where something was
+or_missing_ok : {X : Type 0} (bytes : List ℕ) (r : Result (X × List ℕ) Fault) (y : X × List ℕ) → or_missing bytes r ≡ Ok y → r ≡ Ok y
+or_missing_ok bytes (Ok x) y e = e
+or_missing_ok bytes (Err f) y e = absurd cc
+
+pub bytes_item : (max : ℕ) → max < 2 ^ 32 → IsItem (bytes_at max) opaque (λ bytes. length bytes ≤ max)
+unfolding bytes_at
+bytes_item max small = record {
+  found = λ bytes x rest fits e. (opaque_item max small).found bytes x rest fits (or_missing_ok bytes (opaque_at max bytes) (x, rest) e);
+  again = λ x rest fits. ap (λ (r : Result (List ℕ × List ℕ) Fault). or_missing (opaque x ++ rest) r) ((opaque_item max small).again x rest fits);
+}
 
 -- ---- Stateids
 
@@ -91,7 +105,7 @@ fattr_item =
     fits_as IsFattr (λ a f. (f.words, (f.values, tt))) (λ a f. record { words = f.0; values = f.1.0 }) (
     record_item (
     field_part (λ (a : Fattr). a.words) _ (λ _. bitmap_item) (
-    field_part (λ (a : Fattr). a.values) _ (λ _. opaque_item 65536 (omega arith)) (
+    field_part (λ (a : Fattr). a.values) _ (λ _. bytes_item 65536 (omega arith)) (
     made_part _ (λ _. refl) (λ _. refl)))))
 
 -- ---- Values with one spelling
@@ -111,7 +125,7 @@ read_item =
     fits_as IsRead (λ r f. (tt, (f, tt))) (λ r f. f.1.0) (
     record_item (
     field_part (λ (r : ReadOk). r.eof) _ (λ _. flag_item) (
-    field_part (λ (r : ReadOk). r.«data») _ (λ _. opaque_item 65536 (omega arith)) (
+    field_part (λ (r : ReadOk). r.«data») _ (λ _. bytes_item 65536 (omega arith)) (
     made_part _ (λ _. refl) (λ _. refl)))))
 
 pub write_item : IsItem write_at write_bytes IsWrite
@@ -138,8 +152,8 @@ unfolding address_at address
 address_item =
     fits_as IsAddress (λ a f. (f.netid, (f.addr, tt))) (λ a f. record { netid = f.0; addr = f.1.0 }) (
     record_item (
-    field_part (λ (a : ClientAddress). a.netid) _ (λ _. opaque_item 1024 (omega arith)) (
-    field_part (λ (a : ClientAddress). a.addr) _ (λ _. opaque_item 1024 (omega arith)) (
+    field_part (λ (a : ClientAddress). a.netid) _ (λ _. bytes_item 1024 (omega arith)) (
+    field_part (λ (a : ClientAddress). a.addr) _ (λ _. bytes_item 1024 (omega arith)) (
     made_part _ (λ _. refl) (λ _. refl)))))
 
 -- ---- The lock that is in the way
@@ -195,5 +209,5 @@ denied_item =
     keeps_item (λ (d : AnyDenied). d.length) _ hyper_item (
     keeps_field (λ (d : AnyDenied). d.locktype) kind_of_number _ lock_kind_item (
     keeps_item (λ (d : AnyDenied). d.clientid) _ hyper_item (
-    keeps_item (λ (d : AnyDenied). d.owner) _ (opaque_item 1024 (omega arith)) (
+    keeps_item (λ (d : AnyDenied). d.owner) _ (bytes_item 1024 (omega arith)) (
     keeps_made (λ s. record { offset = s.0.0.0.0.1; length = s.0.0.0.1; locktype = s.0.0.1; clientid = s.0.1; owner = s.1 }) _ (λ _. refl) (λ _. refl) (λ _. refl))))))))

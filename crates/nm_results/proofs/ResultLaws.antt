@@ -15,6 +15,7 @@ use Rattle.nm_results.specs.declared.values.Results.{Results}
 use Rattle.nm_results.specs.Arms.{is_op, arm_of}
 use Rattle.nm_results.specs.Values.{arm_with, value_at, IsSpelling}
 use Rattle.nm_results.specs.Results.{op_at, status_at, judged, arm_at, result_at, items_at, results_at, results_of, IsResult, AreRows, IsResults}
+use Rattle.nm_results.proofs.PartLaws.{bytes_item}
 use Rattle.nm_results.proofs.StatusLaws.{small, status_item}
 use Rattle.nm_results.proofs.ValueLaws.{value_found, value_again}
 
@@ -159,7 +160,7 @@ whole_found : (bytes : List ℕ) (v : Results) (rest : List ℕ) → IsBytes byt
 unfolding results_at items_at counted_at
 whole_found bytes v rest fits e =
     let s = taken status_item _ bytes v rest fits e in
-    let t = taken (opaque_item 1024 (omega arith)) _ s.after v rest s.are_bytes s.went in
+    let t = taken (bytes_item 1024 (omega arith)) _ s.after v rest s.are_bytes s.went in
     let i = bind_ok (items_at t.after) (λ (x : List OpResult × List ℕ). made (record { status = s.value; tag = t.value; items = x.0 }) x.1) (v, rest) t.went in
     let n = taken (length_item (2 ^ 32 - 1) (omega arith)) _ t.after i.0.0 i.0.1 t.are_bytes i.1 in
     let p = each_found n.value [] n.after i.0.0 i.0.1 n.are_bytes n.went in
@@ -183,7 +184,7 @@ whole_again v front rest is =
     let c : List ℕ = word (length v.items) in
     ap (λ (f : List ℕ). results_at (f ++ rest)) is.spelled ∙ ap results_at (apart a b c is.rows rest)
     ∙ given status_item _ v.status (b ++ (c ++ (is.rows ++ rest))) tt
-    ∙ given (opaque_item 1024 (omega arith)) _ v.tag (c ++ (is.rows ++ rest)) is.tag
+    ∙ given (bytes_item 1024 (omega arith)) _ v.tag (c ++ (is.rows ++ rest)) is.tag
     ∙ ap (λ (x : Result (List OpResult × List ℕ) Fault). x >>= λ i. made (record { status = v.status; tag = v.tag; items = i.0 }) i.1)
     (given (length_item (2 ^ 32 - 1) (omega arith)) (λ (n : ℕ). rows_at (λ _. result_at) n []) (length v.items) (is.rows ++ rest) (omega (arith, is.count)) ∙ each_again v.items [] is.rows rest is.each)
 

@@ -11,7 +11,7 @@ use Rattle.nm_results.specs.declared.values.ResultValue.{ResultValue}
 use Rattle.nm_results.specs.declared.values.ResultValue.TheVariants as value
 use Rattle.nm_results.specs.Values.{arm_with, value_at, Keeps, Spells, IsSpelling}
 use Rattle.nm_results.proofs.KeepLaws.{KeepsItem}
-use Rattle.nm_results.proofs.PartLaws.{stateid_item, change_item, fattr_item, access_item, read_item, write_item, client_item, address_item, denied_item}
+use Rattle.nm_results.proofs.PartLaws.{bytes_item, stateid_item, change_item, fattr_item, access_item, read_item, write_item, client_item, address_item, denied_item}
 use Rattle.nm_results.proofs.OpenLaws.{open_item}
 use Rattle.nm_results.proofs.DirLaws.{create_item, dir_item}
 
@@ -53,7 +53,7 @@ value_found arm.Commit bytes v rest fits e = one_found arm.Commit (λ x. value.C
 value_found arm.Create bytes v rest fits e =
     part_found arm.Create (λ x. value.Create x) (λ w x f k. (record { all = w; fits = f; kept = k; spelled = refl }, refl)) create_item bytes v rest fits e
 value_found arm.GetAttr bytes v rest fits e = one_found arm.GetAttr (λ x. value.GetAttr x) (λ x f. ((f, refl), refl)) fattr_item bytes v rest fits e
-value_found arm.GetFh bytes v rest fits e = one_found arm.GetFh (λ x. value.GetFh x) (λ x f. ((f, refl), refl)) (opaque_item 128 (omega arith)) bytes v rest fits e
+value_found arm.GetFh bytes v rest fits e = one_found arm.GetFh (λ x. value.GetFh x) (λ x f. ((f, refl), refl)) (bytes_item 128 (omega arith)) bytes v rest fits e
 value_found arm.Lock bytes v rest fits e = one_found arm.Lock (λ x. value.Lock x) (λ x f. ((f, refl), refl)) stateid_item bytes v rest fits e
 value_found arm.Denied bytes v rest fits e =
     part_found arm.Denied (λ x. value.Denied x) (λ w x f k. (record { all = w; fits = f; kept = k; spelled = refl }, refl)) denied_item bytes v rest fits e
@@ -93,7 +93,7 @@ value_again (value.Close x) front rest s = one_again (λ y. value.Close y) state
 value_again (value.Commit x) front rest s = one_again (λ y. value.Commit y) hyper_item x front rest s
 value_again (value.Create x) front rest s = part_again (λ y. value.Create y) create_item x front rest s
 value_again (value.GetAttr x) front rest s = one_again (λ y. value.GetAttr y) fattr_item x front rest s
-value_again (value.GetFh x) front rest s = one_again (λ y. value.GetFh y) (opaque_item 128 (omega arith)) x front rest s
+value_again (value.GetFh x) front rest s = one_again (λ y. value.GetFh y) (bytes_item 128 (omega arith)) x front rest s
 value_again (value.Lock x) front rest s = one_again (λ y. value.Lock y) stateid_item x front rest s
 value_again (value.Denied x) front rest s = part_again (λ y. value.Denied y) denied_item x front rest s
 value_again (value.LockU x) front rest s = one_again (λ y. value.LockU y) stateid_item x front rest s

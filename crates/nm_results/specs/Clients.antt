@@ -1,9 +1,10 @@
 -- The values of SETCLIENTID (RFC 7531, SETCLIENTID4resok and clientaddr4).
 use Rattle.std.specs.Prelude.{ℕ, ◌^◌, ◌<◌, ◌≤◌, List, [], ◌∷◌, ◌++◌, length}
 use Rattle.nm_xdr.specs.Fields.{Reading, ◌>>=◌, field, made}
-use Rattle.nm_xdr.specs.Items.{hyper, opaque, structure, hyper_at, opaque_at}
+use Rattle.nm_xdr.specs.Items.{hyper, opaque, structure, hyper_at}
 use Rattle.nm_results.specs.declared.values.SetClientIdOk.{SetClientIdOk}
 use Rattle.nm_results.specs.declared.values.ClientAddress.{ClientAddress}
+use Rattle.nm_results.specs.Parts.{bytes_at}
 
 unfoldable pub client : SetClientIdOk → List ℕ
 client c = structure (hyper c.clientid ∷ hyper c.confirm ∷ [])
@@ -20,7 +21,7 @@ unfoldable pub address : ClientAddress → List ℕ
 address a = structure (opaque a.netid ∷ opaque a.addr ∷ [])
 
 unfoldable pub address_at : Reading ClientAddress
-address_at = field (opaque_at 1024) (λ n. field (opaque_at 1024) (λ a. made (record { netid = n; addr = a })))
+address_at = field (bytes_at 1024) (λ n. field (bytes_at 1024) (λ a. made (record { netid = n; addr = a })))
 
 pub record IsAddress (a : ClientAddress) : Type 0 where
   pub netid : length a.netid ≤ 1024

@@ -1,10 +1,11 @@
 -- The values of ACCESS, READ and WRITE (RFC 7531, ACCESS4resok, READ4resok, WRITE4resok).
 use Rattle.std.specs.Prelude.{ℕ, ◌^◌, ◌<◌, ◌≤◌, List, [], ◌∷◌, ◌++◌, length}
 use Rattle.nm_xdr.specs.Fields.{Reading, ◌>>=◌, field, made}
-use Rattle.nm_xdr.specs.Items.{word, hyper, flag, opaque, structure, word_at, hyper_at, flag_at, opaque_at}
+use Rattle.nm_xdr.specs.Items.{word, hyper, flag, opaque, structure, word_at, hyper_at, flag_at}
 use Rattle.nm_rules.specs.declared.results.AccessOk.{AccessOk}
 use Rattle.nm_rules.specs.declared.results.ReadOk.{ReadOk}
 use Rattle.nm_rules.specs.declared.results.WriteOk.{WriteOk}
+use Rattle.nm_results.specs.Parts.{bytes_at}
 
 unfoldable pub access : AccessOk → List ℕ
 access a = structure (word a.supported ∷ word a.access ∷ [])
@@ -20,7 +21,7 @@ unfoldable pub read_bytes : ReadOk → List ℕ
 read_bytes r = structure (flag r.eof ∷ opaque r.«data» ∷ [])
 
 unfoldable pub read_at : Reading ReadOk
-read_at = field flag_at (λ e. field (opaque_at 65536) (λ d. made (record { eof = e; «data» = d })))
+read_at = field flag_at (λ e. field (bytes_at 65536) (λ d. made (record { eof = e; «data» = d })))
 
 -- at most 65,536 bytes
 abbrev pub IsRead : ReadOk → Type 0

@@ -2,12 +2,12 @@
 use Rattle.std.specs.Prelude.{ℕ, zero, suc, ◌^◌, ◌<◌, ◌≤◌, Bool, true, false, List, [], ◌∷◌, ◌++◌, length, All, Option, Some, None, Result, Ok}
 use Rattle.std.specs.List.{flat_map}
 use Rattle.nm_xdr.specs.Fields.{short, Fault, Reading, ◌>>=◌, fault_at, field, made}
-use Rattle.nm_xdr.specs.Items.{hyper, flag, opaque, structure, hyper_at, flag_at, opaque_at, optional_at}
+use Rattle.nm_xdr.specs.Items.{hyper, flag, opaque, structure, hyper_at, flag_at, optional_at}
 use Rattle.nm_attrs.specs.Bitmaps.{bitmap, bitmap_at, IsBitmap}
 use Rattle.nm_rules.specs.declared.results.CreateOk.{CreateOk}
 use Rattle.nm_results.specs.declared.values.DirEntry.{DirEntry}
 use Rattle.nm_results.specs.declared.values.ReadDirOk.{ReadDirOk}
-use Rattle.nm_results.specs.Parts.{AnyChange, change, change_at, IsChange, written_change, fattr, fattr_at, IsFattr}
+use Rattle.nm_results.specs.Parts.{bytes_at, AnyChange, change, change_at, IsChange, written_change, fattr, fattr_at, IsFattr}
 
 -- ---- CREATE
 
@@ -43,7 +43,7 @@ unfoldable pub entry : DirEntry → List ℕ
 entry e = structure (hyper e.cookie ∷ opaque e.name ∷ fattr e.attrs ∷ [])
 
 unfoldable pub entry_at : Reading DirEntry
-entry_at = field hyper_at (λ c. field (opaque_at 1048576) (λ n. field fattr_at (λ a. made (record { cookie = c; name = n; attrs = a }))))
+entry_at = field hyper_at (λ c. field (bytes_at 1048576) (λ n. field fattr_at (λ a. made (record { cookie = c; name = n; attrs = a }))))
 
 pub record IsEntry (e : DirEntry) : Type 0 where
   pub cookie : e.cookie < 2 ^ 64

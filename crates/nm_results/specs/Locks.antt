@@ -1,10 +1,11 @@
 -- The value of LOCK and LOCKT with DENIED (RFC 7531, LOCK4denied).
 use Rattle.std.specs.Prelude.{ℕ, ◌^◌, ◌<◌, ◌≤◌, ◌==◌, ◌||◌, List, [], ◌∷◌, ◌++◌, length, Option, Some, None, if◌then◌else◌}
 use Rattle.nm_xdr.specs.Fields.{Reading, ◌>>=◌, field, made}
-use Rattle.nm_xdr.specs.Items.{word, hyper, opaque, structure, word_at, hyper_at, opaque_at, enum_at}
+use Rattle.nm_xdr.specs.Items.{word, hyper, opaque, structure, word_at, hyper_at, enum_at}
 use Rattle.nm_rules.specs.declared.results.LockKind.{LockKind}
 use Rattle.nm_rules.specs.declared.results.LockKind.TheVariants as kind
 use Rattle.nm_results.specs.declared.values.LockDenied.{LockDenied}
+use Rattle.nm_results.specs.Parts.{bytes_at}
 
 -- the numbers of kinds (nfs_lock_type4): 1 and 3 read, 2 and 4 write, and 3 and 4 tell that the asker waits
 unfoldable pub kind_numbered : ℕ → Option LockKind
@@ -38,7 +39,7 @@ denied d = structure (hyper d.offset ∷ hyper d.length ∷ word d.locktype ∷ 
 
 unfoldable pub denied_at : Reading LockDenied
 denied_at =
-    field hyper_at (λ o. field hyper_at (λ l. field lock_kind_at (λ k. field hyper_at (λ c. field (opaque_at 1024) (λ w.
+    field hyper_at (λ o. field hyper_at (λ l. field lock_kind_at (λ k. field hyper_at (λ c. field (bytes_at 1024) (λ w.
     made (record { offset = o; length = l; kind = k; clientid = c; owner = w }))))))
 
 pub record IsAnyDenied (d : AnyDenied) : Type 0 where

@@ -1,14 +1,14 @@
 -- The value of OPEN (RFC 7531, OPEN4resok).
 use Rattle.std.specs.Prelude.{◌≡◌, ℕ, ◌^◌, ◌<◌, ◌≤◌, Bool, true, false, ◌==◌, nat_le, List, [], ◌∷◌, ◌++◌, length, if◌then◌else◌}
 use Rattle.nm_xdr.specs.Fields.{enum, Reading, ◌>>=◌, field, made, tested}
-use Rattle.nm_xdr.specs.Items.{word, hyper, flag, opaque, structure, union, word_at, hyper_at, flag_at, opaque_at}
+use Rattle.nm_xdr.specs.Items.{word, hyper, flag, opaque, structure, union, word_at, hyper_at, flag_at}
 use Rattle.nm_attrs.specs.Bitmaps.{bitmap, bitmap_at, IsBitmap}
 use Rattle.nm_rules.specs.declared.calls.StateId.{StateId}
 use Rattle.nm_rules.specs.declared.results.ChangeInfo.{ChangeInfo}
 use Rattle.nm_rules.specs.declared.results.OpenOk.{OpenOk}
 use Rattle.nm_rules.specs.declared.results.OpenDelegation.{OpenDelegation}
 use Rattle.nm_rules.specs.declared.results.OpenDelegation.TheVariants as delegation
-use Rattle.nm_results.specs.Parts.{stateid, stateid_at, IsStateId, AnyChange, change, change_at, IsChange, written_change}
+use Rattle.nm_results.specs.Parts.{bytes_at, stateid, stateid_at, IsStateId, AnyChange, change, change_at, IsChange, written_change}
 
 -- ---- Delegations (open_delegation4)
 
@@ -30,7 +30,7 @@ pub record IsAce (a : Ace) : Type 0 where
 
 -- An ace is passed over, and this is the value.
 unfoldable pub ace_behind : OpenDelegation → Reading OpenDelegation
-ace_behind d = field word_at (λ kind. field word_at (λ flags. field word_at (λ mask. field (opaque_at 1024) (λ who. made d))))
+ace_behind d = field word_at (λ kind. field word_at (λ flags. field word_at (λ mask. field (bytes_at 1024) (λ who. made d))))
 
 -- All that stands there of a delegation.
 pub data AnyDelegation : Type 0 where

@@ -1,15 +1,24 @@
 -- The parts that values of several results share (RFC 7531).
-use Rattle.std.specs.Prelude.{ℕ, ◌^◌, ◌<◌, ◌≤◌, Bool, true, nat_lt, List, [], ◌∷◌, ◌++◌, length, Err, if◌then◌else◌}
-use Rattle.nm_xdr.specs.Fields.{short, Reading, ◌>>=◌, fault_at, field, made}
+use Rattle.std.specs.Prelude.{ℕ, ◌^◌, ◌<◌, ◌≤◌, Bool, true, nat_lt, List, [], ◌∷◌, ◌++◌, length, Result, Ok, Err, if◌then◌else◌}
+use Rattle.nm_xdr.specs.Fields.{short, Fault, Reading, ◌>>=◌, fault_at, field, made}
 use Rattle.nm_xdr.specs.Items.{word, hyper, flag, opaque, structure, word_at, hyper_at, flag_at, opaque_at}
 use Rattle.nm_attrs.specs.Bitmaps.{bitmap, bitmap_at, IsBitmap}
 use Rattle.nm_rules.specs.declared.calls.StateId.{StateId}
 use Rattle.nm_rules.specs.declared.results.ChangeInfo.{ChangeInfo}
-use Rattle.nm_results.specs.declared.values.Fattr.{Fattr}
+use Rattle.nm_rules.specs.declared.args.Fattr.{Fattr}
 
 -- Where fewer than n bytes are left, all of the item is missing.
 abbrev pub enough : {X : Type 0} → ℕ → Reading X → Reading X
 enough n read bytes = if nat_lt (length bytes) n then fault_at short bytes else read bytes
+
+-- Whatever is wrong with an item, it is told at its first byte.
+abbrev pub or_missing : {X : Type 0} → List ℕ → Result (X × List ℕ) Fault → Result (X × List ℕ) Fault
+or_missing bytes (Ok x) = Ok x
+or_missing bytes (Err f) = fault_at short bytes
+
+-- A length of at most max, and that many bytes with their padding.
+unfoldable pub bytes_at : ℕ → Reading (List ℕ)
+bytes_at max bytes = or_missing bytes (opaque_at max bytes)
 
 -- ---- Stateids (stateid4)
 
@@ -63,7 +72,7 @@ unfoldable pub fattr : Fattr → List ℕ
 fattr a = structure (bitmap a.words ∷ opaque a.values ∷ [])
 
 unfoldable pub fattr_at : Reading Fattr
-fattr_at = field bitmap_at (λ words. field (opaque_at 65536) (λ values. made (record { words = words; values = values })))
+fattr_at = field bitmap_at (λ words. field (bytes_at 65536) (λ values. made (record { words = words; values = values })))
 
 pub record IsFattr (a : Fattr) : Type 0 where
   pub words : IsBitmap a.words

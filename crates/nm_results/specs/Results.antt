@@ -2,7 +2,7 @@
 use Rattle.std.specs.Prelude.{◌≡◌, ℕ, ◌+◌, ◌-◌, ◌^◌, ◌<◌, ◌≤◌, true, List, [], ◌∷◌, ◌++◌, length, All, Option, Some, None, Result, Ok, Err}
 use Rattle.std.specs.List.{flat_map}
 use Rattle.nm_xdr.specs.Fields.{enum, Fault, Reading, ◌>>=◌, fault_at, field, made, tested, all_of}
-use Rattle.nm_xdr.specs.Items.{word, opaque, counted, structure, word_at, opaque_at, counted_at, enum_at}
+use Rattle.nm_xdr.specs.Items.{word, opaque, counted, structure, word_at, counted_at, enum_at}
 use Rattle.nm_xdr.specs.Places.{place_of}
 use Rattle.nm_attrs.specs.declared.fault.ReadFault.{ReadFault}
 use Rattle.nm_attrs.specs.declared.fault.ReadFault.TheVariants as item
@@ -15,6 +15,7 @@ use Rattle.nm_results.specs.declared.fault.ResultsFault.{ResultsFault}
 use Rattle.nm_results.specs.declared.fault.ResultsFault.TheVariants as fault
 use Rattle.nm_results.specs.Arms.{is_op, arm_of}
 use Rattle.nm_results.specs.Values.{arm_with, value_at, value_bytes, IsValue, IsSpelling}
+use Rattle.nm_results.specs.Parts.{bytes_at}
 
 -- ---- Reading
 
@@ -46,7 +47,7 @@ items_at = counted_at (2 ^ 32 - 1) (λ _. result_at)
 -- the status of the whole, the tag, and the results
 unfoldable pub results_at : Reading Results
 results_at =
-    field status_at (λ status. field (opaque_at 1024) (λ tag. field items_at (λ items. made (record { status = status; tag = tag; items = items }))))
+    field status_at (λ status. field (bytes_at 1024) (λ tag. field items_at (λ items. made (record { status = status; tag = tag; items = items }))))
 
 -- What all of the bytes tell, or the first fault.
 unfoldable pub results_of : List ℕ → Result Results Fault

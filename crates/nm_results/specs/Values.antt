@@ -1,13 +1,13 @@
 -- The values of results: reading, the spelling that is written, and what bytes are a value.
 use Rattle.std.specs.Prelude.{◌≡◌, ℕ, ◌^◌, ◌<◌, ◌≤◌, List, [], ◌∷◌, ◌++◌, length}
 use Rattle.nm_xdr.specs.Fields.{Reading, ◌>>=◌, field, made}
-use Rattle.nm_xdr.specs.Items.{hyper, opaque, hyper_at, opaque_at}
+use Rattle.nm_xdr.specs.Items.{hyper, opaque, hyper_at}
 use Rattle.nm_attrs.specs.Bitmaps.{bitmap, bitmap_at, IsBitmap}
 use Rattle.nm_results.specs.declared.arms.Arm.{Arm}
 use Rattle.nm_results.specs.declared.arms.Arm.TheVariants as arm
 use Rattle.nm_results.specs.declared.values.ResultValue.{ResultValue}
 use Rattle.nm_results.specs.declared.values.ResultValue.TheVariants as value
-use Rattle.nm_results.specs.Parts.{stateid, stateid_at, IsStateId, AnyChange, change, change_at, IsChange, written_change, fattr, fattr_at, IsFattr}
+use Rattle.nm_results.specs.Parts.{bytes_at, stateid, stateid_at, IsStateId, AnyChange, change, change_at, IsChange, written_change, fattr, fattr_at, IsFattr}
 use Rattle.nm_results.specs.Opens.{AnyOpen, open_bytes, open_at, open_of, written_open, IsAnyOpen, IsOpen}
 use Rattle.nm_results.specs.Locks.{AnyDenied, denied, denied_at, denied_of, written_denied, IsAnyDenied, IsDenied}
 use Rattle.nm_results.specs.Contents.{access, access_at, IsAccess, read_bytes, read_at, IsRead, write_bytes, write_at, IsWrite}
@@ -46,7 +46,7 @@ value_at arm.Close = field stateid_at (λ s. made (value.Close s))
 value_at arm.Commit = field hyper_at (λ v. made (value.Commit v))
 value_at arm.Create = field create_at (λ c. made (value.Create c))
 value_at arm.GetAttr = field fattr_at (λ a. made (value.GetAttr a))
-value_at arm.GetFh = field (opaque_at 128) (λ h. made (value.GetFh h))
+value_at arm.GetFh = field (bytes_at 128) (λ h. made (value.GetFh h))
 value_at arm.Lock = field stateid_at (λ s. made (value.Lock s))
 value_at arm.Denied = field denied_at (λ d. made (value.Denied d))
 value_at arm.LockU = field stateid_at (λ s. made (value.LockU s))

@@ -31,7 +31,7 @@ pub use fault::ResultsFault;
 pub use laws::{results_are_read_as_spelled, results_are_read_as_written};
 pub use reading::read_results;
 pub use values::{
-    ClientAddress, DirEntries, DirEntry, Fattr, LockDenied, OpResult, ReadDirOk, ResultList,
-    ResultValue, Results, SetClientIdOk,
+    ClientAddress, DirEntries, DirEntry, LockDenied, OpResult, ReadDirOk, ResultList, ResultValue,
+    Results, SetClientIdOk,
 };
 pub use writing::write_results;

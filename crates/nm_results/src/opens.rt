@@ -5,7 +5,7 @@ ghost use Rattle.nm_rules.specs.declared.results.OpenDelegation.TheVariants as d
 ghost use Rattle.nm_attrs.specs.Takes.{Takes};
 ghost use Rattle.nm_results.specs.Opens.{ace_behind, delegation_bytes, only_at, reads_at, writes_at, kind_at, delegation_as, delegation_at, written_delegation, ace, no_ace, open_at, open_bytes, written_open, IsOpen};
 
-use crate::parts::{put_change, put_stateid, take_change, take_stateid, take_words};
+use crate::parts::{put_change, put_stateid, take_change, take_slice, take_stateid, take_words};
 use nm_attrs::{ReadFault, put_bitmap};
 use nm_rules::{OpenDelegation, OpenOk, StateId};
 use nm_xdr::{Cursor, Memory, Writer, XdrFault};
@@ -108,7 +108,7 @@ fn pass_ace(cursor: &mut Cursor<'_>, delegation: OpenDelegation) -> Result<OpenD
     cursor.take_u32()?;
     cursor.take_u32()?;
     cursor.take_u32()?;
-    cursor.take_opaque(1024)?;
+    take_slice(cursor, 1024)?;
     Ok(delegation)
 }
 

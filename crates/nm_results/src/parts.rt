@@ -1,14 +1,12 @@
 //! The parts that values of several results share.
 ghost use Rattle.std.specs.Prelude.{◌≡◌, ◌++◌, ◌<◌, ◌≤◌, ◌^◌, length, OnOk};
-ghost use Rattle.nm_xdr.specs.Items.{opaque_at};
 ghost use Rattle.nm_xdr.specs.Places.{Gives};
 ghost use Rattle.nm_attrs.specs.Bitmaps.{bitmap_at};
 ghost use Rattle.nm_attrs.specs.Takes.{Takes};
-ghost use Rattle.nm_results.specs.Parts.{other_at, stateid_at, stateid, change_at, change, written_change, fattr_at, fattr, IsFattr};
+ghost use Rattle.nm_results.specs.Parts.{bytes_at, other_at, stateid_at, stateid, change_at, change, written_change, fattr_at, fattr, IsFattr};
 
-use crate::Fattr;
 use nm_attrs::{ReadFault, put_bitmap, take_bitmap};
-use nm_rules::{Bytes, ChangeInfo, Items, StateId};
+use nm_rules::{Bytes, ChangeInfo, Fattr, StateId, Words};
 use nm_xdr::{Cursor, Memory, Writer, XdrFault};
 use std::alloc::Global;
 
@@ -66,19 +64,31 @@ pub(crate) fn put_change(writer: &mut Writer, value: &ChangeInfo) -> Result<(), 
     writer.put_u64(value.after)
 }
 
-/// Takes bytes of announced length.
+/// Takes a length of at most this, that many bytes and their padding. Whatever is wrong with them, the fault is at the length.
+#[tactic(auto, unfolding(crate::specs::Parts::bytes_at))]
+pub(crate) fn take_slice<'a>(cursor: &mut Cursor<'a>, max: u32) -> Result<&'a [u8], XdrFault>
+    ensures { Gives (λ bytes. bytes.now) (bytes_at max) cursor.old result cursor.new }
+{
+    let at = cursor.place();
+    match cursor.take_opaque(max) {
+        Ok(bytes) => Ok(bytes),
+        Err(_) => Err(XdrFault::Short { at }),
+    }
+}
+
+/// The same, kept.
 pub(crate) fn take_bytes(
     alloc: Global,
     cursor: &mut Cursor<'_>,
     max: u32,
 ) -> Result<Bytes, ReadFault>
-    ensures { Takes (opaque_at max) cursor.old result cursor.new }
+    ensures { Takes (bytes_at max) cursor.old result cursor.new }
 {
-    Ok(Bytes::from_slice(alloc, cursor.take_opaque(max)?)?)
+    Ok(Bytes::from_slice(alloc, take_slice(cursor, max)?)?)
 }
 
 /// Takes the words of a bitmap.
-pub(crate) fn take_words(alloc: Global, cursor: &mut Cursor<'_>) -> Result<Items<u32>, ReadFault>
+pub(crate) fn take_words(alloc: Global, cursor: &mut Cursor<'_>) -> Result<Words, ReadFault>
     ensures { Takes bitmap_at cursor.old result cursor.new }
 {
     Ok(take_bitmap(alloc, cursor)?.into_words())

@@ -1,17 +1,8 @@
 //! What the results of operations tell.
 use nm_rules::{
-    AccessOk, Bytes, ChangeInfo, CreateOk, Items, LockKind, OpStatus, OpenOk, ReadOk, StateId,
-    WriteOk,
+    AccessOk, Bytes, ChangeInfo, CreateOk, Fattr, Items, LockKind, OpStatus, OpenOk, ReadOk,
+    StateId, Words, WriteOk,
 };
-
-/// Attributes as they stand in a message (RFC 7531, fattr4). Whether the bytes are values of the attributes isn't known.
-#[derive(Debug, PartialEq, Eq, Drop)]
-pub struct Fattr {
-    /// The words of their bitmap, at most 8.
-    pub words: Items<u32>,
-    /// Their values, one after the other, of at most 65,536 bytes.
-    pub values: Bytes,
-}
 
 /// The lock that is in the way of another (RFC 7531, LOCK4denied).
 #[derive(Debug, PartialEq, Eq, Drop)]
@@ -88,8 +79,8 @@ pub enum ResultValue {
     ReadDir(ReadDirOk),
     /// The change of the directory.
     Remove(ChangeInfo),
-    /// The words of a bitmap, at most 8: the attributes that were set. SETATTR has it with every status.
-    SetAttr(Items<u32>),
+    /// The attributes that were set. SETATTR has them with every status.
+    SetAttr(Words),
     SetClientId(SetClientIdOk),
     /// SETCLIENTID with CLID_INUSE: the client that uses the name.
     ClientInUse(ClientAddress),
