@@ -1,5 +1,4 @@
-use Rattle.std.proofs.Common.{◌≡◌, ◌≤◌, ◌+◌, arith, ap, refl}
-use Rattle.nm_slot.specs.Kept.{rows_of}
+use Rattle.std.proofs.Common.{◌≡◌, arith, ap}
 use Rattle.nm_slot.specs.SlotNow.{SlotNow}
 use Rattle.nm_slot.proofs.StateLemmas.{kept_with}
 use Rattle.nm_slot.proofs.slot.Slot.carry_out.Goals as goal

@@ -1,5 +1,4 @@
-use Rattle.std.proofs.Common.{◌≡◌, false, ap, sym, ◌∙◌}
-use Rattle.nm_slot.specs.Kept.{TookIt}
+use Rattle.std.proofs.Common.{ap, sym, ◌∙◌}
 use Rattle.nm_slot.specs.SlotNow.{SlotNow}
 use Rattle.nm_slot.proofs.StateLemmas.{took_some}
 use Rattle.nm_slot.proofs.slot.Slot.install.Goals as goal
