@@ -189,3 +189,6 @@ pub none_is : (fs n s : ℕ) (slots : List SlotNow) → map view_of slots ≡ re
 none_is fs n s slots is past =
     let many : length (replicate n (no_part fs)) ≤ s = rw (← is, length-map slots view_of) past in
     is ∙ sym (set_past (replicate n (no_part fs)) s (first_slot fs) many)
+
+-- what the steps of slots go by
+pub ruleset of_slots = (slot_within, slot_past, after_within, after_past)

@@ -94,8 +94,8 @@ impl Slots {
         Ok(Slots { fs, list })
     }
 
-    /// Asks the door of a server.
-    #[tactic(auto, using(crate::proofs::SlotLemmas::slot_within, crate::proofs::SlotLemmas::slot_past, crate::proofs::SlotLemmas::after_within, crate::proofs::SlotLemmas::after_past, crate::proofs::SlotLemmas::enter_past))]
+    /// Asks the door of a server for a pass.
+    #[tactic(auto, using(crate::proofs::SlotLemmas::of_slots, crate::proofs::SlotLemmas::enter_past))]
     pub fn enter(&mut self, server: ServerNum) -> Enter
         ensures answer { result ≡ enter_answer (slot_at self.old server) }
         ensures after { self.new ≡ slots_after self.old server (Entering result) }
@@ -107,8 +107,8 @@ impl Slots {
         self.list[at].enter()
     }
 
-    /// Gives a pass back.
-    #[tactic(auto, using(crate::proofs::SlotLemmas::slot_within, crate::proofs::SlotLemmas::slot_past, crate::proofs::SlotLemmas::after_within, crate::proofs::SlotLemmas::after_past))]
+    /// Gives a pass back to a server.
+    #[tactic(auto, using(crate::proofs::SlotLemmas::of_slots))]
     pub fn leave(&mut self, server: ServerNum, pass: FsPass)
         ensures { self.new ≡ slots_after self.old server (Leaving pass.epoch) }
     {
@@ -118,8 +118,8 @@ impl Slots {
         }
     }
 
-    /// Makes a call with a pass. After want of memory nothing is promised of what the servers have.
-    #[tactic(auto, using(crate::proofs::SlotLemmas::slot_within, crate::proofs::SlotLemmas::slot_past, crate::proofs::SlotLemmas::after_within, crate::proofs::SlotLemmas::after_past, crate::proofs::SlotLemmas::apply_past))]
+    /// Makes a call at a server with a pass. After want of memory nothing is promised of what the servers have.
+    #[tactic(auto, using(crate::proofs::SlotLemmas::of_slots, crate::proofs::SlotLemmas::apply_past))]
     pub fn apply(&mut self, server: ServerNum, pass: &FsPass, call: &Call) -> Result<Answer, Memory>
         ensures answer { IfOk result (λ a. a ≡ apply_answer (slot_at self.old server) pass.now.epoch call.now Pass) }
         ensures after { IfOk result (λ a. self.new ≡ slots_after self.old server (Applying pass.now.epoch call.now Pass a)) }
@@ -135,8 +135,8 @@ impl Slots {
         Ok(self.list[at].apply(pass, None, call, Verdict::Pass)?)
     }
 
-    /// Begins a move from a server to another.
-    #[tactic(auto, using(crate::proofs::SlotLemmas::slot_within, crate::proofs::SlotLemmas::slot_past, crate::proofs::SlotLemmas::after_within, crate::proofs::SlotLemmas::after_past, crate::proofs::SlotLemmas::begin_past))]
+    /// A server begins a move to `dest`.
+    #[tactic(auto, using(crate::proofs::SlotLemmas::of_slots, crate::proofs::SlotLemmas::begin_past))]
     pub fn begin(&mut self, server: ServerNum, dest: ServerNum) -> Begin
         ensures answer { result ≡ begin_answer (slot_at self.old server) server dest }
         ensures after { self.new ≡ slots_after self.old server (Beginning server dest result) }
@@ -148,8 +148,8 @@ impl Slots {
         self.list[at].begin(server, dest)
     }
 
-    /// Freezes it for the move under way.
-    #[tactic(auto, using(crate::proofs::SlotLemmas::slot_within, crate::proofs::SlotLemmas::slot_past, crate::proofs::SlotLemmas::after_within, crate::proofs::SlotLemmas::after_past, crate::proofs::SlotLemmas::freeze_past))]
+    /// A server freezes the file system for the move under way there.
+    #[tactic(auto, using(crate::proofs::SlotLemmas::of_slots, crate::proofs::SlotLemmas::freeze_past))]
     pub fn freeze(&mut self, server: ServerNum) -> Freeze
         ensures answer { result ≡ freeze_answer (slot_at self.old server) }
         ensures after { self.new ≡ slots_after self.old server (Freezing result) }
@@ -161,8 +161,8 @@ impl Slots {
         self.list[at].freeze()
     }
 
-    /// Gives the move up that is under way.
-    #[tactic(auto, using(crate::proofs::SlotLemmas::slot_within, crate::proofs::SlotLemmas::slot_past, crate::proofs::SlotLemmas::after_within, crate::proofs::SlotLemmas::after_past, crate::proofs::SlotLemmas::abandon_past))]
+    /// A server gives the move up that is under way there.
+    #[tactic(auto, using(crate::proofs::SlotLemmas::of_slots, crate::proofs::SlotLemmas::abandon_past))]
     pub fn abandon(&mut self, server: ServerNum) -> Abandon
         ensures answer { result ≡ abandon_answer (slot_at self.old server) }
         ensures after { self.new ≡ slots_after self.old server (Abandoning result) }
@@ -174,8 +174,8 @@ impl Slots {
         self.list[at].abandon()
     }
 
-    /// Hands it over.
-    #[tactic(auto, using(crate::proofs::SlotLemmas::slot_within, crate::proofs::SlotLemmas::slot_past, crate::proofs::SlotLemmas::after_within, crate::proofs::SlotLemmas::after_past, crate::proofs::SlotLemmas::commit_past))]
+    /// A server hands the file system over by the move of that number. `Memory` where its state is spent.
+    #[tactic(auto, using(crate::proofs::SlotLemmas::of_slots, crate::proofs::SlotLemmas::commit_past))]
     pub fn commit(&mut self, server: ServerNum, number: MoveNum) -> Result<Commit, Memory>
         ensures answer { IfOk result (λ a. handed_over a ≡ commit_answer (slot_at self.old server) number) }
         ensures after { IfOk result (λ a. self.new ≡ slots_after self.old server (Committing number (handed_over a))) }
@@ -194,8 +194,9 @@ impl Slots {
         Ok(slot.commit(number))
     }
 
-    /// Holds an offer.
-    #[tactic(auto, using(crate::proofs::SlotLemmas::slot_within, crate::proofs::SlotLemmas::slot_past, crate::proofs::SlotLemmas::after_within, crate::proofs::SlotLemmas::after_past))]
+    /// An offer comes to a server, which holds a copy of it. `Memory` where an allocation failed or its state is spent; then
+    /// nothing is promised of what the servers have.
+    #[tactic(auto, using(crate::proofs::SlotLemmas::of_slots))]
     pub fn accept(&mut self, server: ServerNum, image: &Image) -> Result<Accept, Memory>
         requires { MayBeOffered self.old.fs image.now }
         ensures answer { IfOk result (λ a. a ≡ accept_answer (slot_at self.old server) image.now.number) }
@@ -213,8 +214,8 @@ impl Slots {
         Ok(slot.accept(image)?)
     }
 
-    /// Installs an offer that is held.
-    #[tactic(auto, using(crate::proofs::SlotLemmas::slot_within, crate::proofs::SlotLemmas::slot_past, crate::proofs::SlotLemmas::after_within, crate::proofs::SlotLemmas::after_past))]
+    /// A server installs the offer of the move of that number, where it holds it.
+    #[tactic(auto, using(crate::proofs::SlotLemmas::of_slots))]
     pub fn install(&mut self, server: ServerNum, number: MoveNum) -> Install
         ensures answer { result ≡ install_answer (slot_at self.old server) number }
         ensures after { self.new ≡ slots_after self.old server (Installing number result) }
@@ -226,8 +227,8 @@ impl Slots {
         self.list[at].install(number)
     }
 
-    /// What a server does with it.
-    #[tactic(auto, using(crate::proofs::SlotLemmas::slot_within, crate::proofs::SlotLemmas::slot_past, crate::proofs::SlotLemmas::after_within, crate::proofs::SlotLemmas::after_past, crate::proofs::SlotLemmas::phase_past))]
+    /// What a server does with the file system.
+    #[tactic(auto, using(crate::proofs::SlotLemmas::of_slots, crate::proofs::SlotLemmas::phase_past))]
     pub fn phase(&self, server: ServerNum) -> Phase
         ensures { result ≡ phase_of (slot_at self.now server) }
     {
@@ -238,7 +239,7 @@ impl Slots {
     }
 
     /// The greatest move number that a server knows.
-    #[tactic(auto, using(crate::proofs::SlotLemmas::slot_within, crate::proofs::SlotLemmas::slot_past, crate::proofs::SlotLemmas::after_within, crate::proofs::SlotLemmas::after_past))]
+    #[tactic(auto, using(crate::proofs::SlotLemmas::of_slots))]
     pub fn known(&self, server: ServerNum) -> MoveNum
         ensures { result ≡ (slot_at self.now server).own.known }
     {
@@ -248,8 +249,8 @@ impl Slots {
         }
     }
 
-    /// What is on offer at a server.
-    #[tactic(auto, using(crate::proofs::SlotLemmas::slot_within, crate::proofs::SlotLemmas::slot_past, crate::proofs::SlotLemmas::after_within, crate::proofs::SlotLemmas::after_past, crate::proofs::SlotLemmas::image_past))]
+    /// A copy of what is on offer at a server. `Memory` where an allocation failed or its state is spent.
+    #[tactic(auto, using(crate::proofs::SlotLemmas::of_slots, crate::proofs::SlotLemmas::image_past))]
     pub fn image(&self, server: ServerNum) -> Result<Option<Image>, Memory>
         ensures value { IfOk result (λ image. option_map offer_of image ≡ image_answer (slot_at self.now server)) }
         ensures fits { IfOk result (λ image. IfSome image (MayBeOffered self.now.fs)) }
@@ -265,8 +266,8 @@ impl Slots {
         Ok(slot.image()?)
     }
 
-    /// What a server shows of it.
-    #[tactic(auto, using(crate::proofs::SlotLemmas::slot_within, crate::proofs::SlotLemmas::slot_past, crate::proofs::SlotLemmas::after_within, crate::proofs::SlotLemmas::after_past, crate::proofs::SlotLemmas::table_past))]
+    /// What is held in the state that a server has or holds.
+    #[tactic(auto, using(crate::proofs::SlotLemmas::of_slots, crate::proofs::SlotLemmas::table_past))]
     pub fn table(&self, server: ServerNum) -> Result<Option<HeldTable>, Memory>
         ensures { IfOk result (λ table. table ≡ table_answer (slot_at self.now server)) }
     {
