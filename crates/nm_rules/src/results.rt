@@ -1,5 +1,5 @@
 //! Values of results that a file system's replies share (RFC 7530, 16; RFC 7531).
-use crate::{Bytes, StateId, Words};
+use crate::{Bytes, Items, StateId};
 
 /// What an OK of ACCESS tells (RFC 7531, ACCESS4resok): rights, by their bits.
 #[derive(Clone, Copy, Debug, PartialEq, Eq)]
@@ -22,8 +22,8 @@ pub struct ChangeInfo {
 pub struct CreateOk {
     /// That of the directory.
     pub cinfo: ChangeInfo,
-    /// The attributes that were set.
-    pub attrset: Words,
+    /// The words of a bitmap, at most 8: the attributes that were set.
+    pub attrset: Items<u32>,
 }
 
 /// The delegation that an OPEN grants (RFC 7531, open_delegation4), by its stateid.
@@ -42,8 +42,8 @@ pub struct OpenOk {
     pub cinfo: ChangeInfo,
     /// Bits: 2 where the owner has to confirm, 4 where locks follow POSIX.
     pub rflags: u32,
-    /// The attributes that were set.
-    pub attrset: Words,
+    /// The words of a bitmap, at most 8: the attributes that were set.
+    pub attrset: Items<u32>,
     pub delegation: OpenDelegation,
 }
 
