@@ -17,7 +17,7 @@ use Rattle.nm_slot.specs.SlotNow.SlotStep.{Accepting, Entering}
 use Rattle.nm_short.specs.Files.{accepted_in, sent_answer, delivered, accept_told, sent_on}
 use Rattle.nm_short.specs.Tables.{FileTables, SentTo, KnockedTo, knocks_to, slot_in, stepped, accept_to, delivers_to, stage_table, shown_table, shower}
 
-pub table_same : (stage : Stage) (own : Own) (held : Option Offer) → own.held ≡ held → stage_table stage held ≡ table_at stage own
+table_same : (stage : Stage) (own : Own) (held : Option Offer) → own.held ≡ held → stage_table stage held ≡ table_at stage own
 table_same (Here doing state) own held is = refl
 table_same Away own None is = rw is refl
 table_same Away own (Some offer) is = rw is refl

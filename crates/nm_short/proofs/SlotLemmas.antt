@@ -184,11 +184,5 @@ pub slots_first : (fs n at s : ℕ) (slots : List SlotNow) (new : SlotNow) → s
 slots_first fs n at s slots new here is first =
     ap (λ (views : List SlotView). record { fs = fs; views = views }) (first_is fs n s slots new is first ∙ ap (first_slots n fs) here)
 
-pub none_is : (fs n s : ℕ) (slots : List SlotNow) → map view_of slots ≡ replicate n (no_part fs) → length slots ≤ s
-    → map view_of slots ≡ first_slots n fs s
-none_is fs n s slots is past =
-    let many : length (replicate n (no_part fs)) ≤ s = rw (← is, length-map slots view_of) past in
-    is ∙ sym (set_past (replicate n (no_part fs)) s (first_slot fs) many)
-
 -- what the steps of slots go by
 pub ruleset of_slots = (slot_within, slot_past, after_within, after_past)
