@@ -246,20 +246,25 @@ const FIELDS: [(&str, &str); 20] = [
     ),
 ];
 
+/// The bytes of the vector of this name.
+fn vector(alloc: Global, name: &str) -> Result<Vec<u8>, Fail> {
+    for (other, digits) in VECTORS {
+        if other == name {
+            return bytes_of(alloc, digits);
+        }
+    }
+    Err("a vector".into())
+}
+
 #[test]
 fn fields_are_read_into_their_places(rt: HostRuntime) -> Result<(), Fail> {
     let alloc = rt.alloc();
     for (name, text) in FIELDS {
-        let mut told = String::new(alloc);
-        for (other, digits) in VECTORS {
-            if other == name {
-                let bytes = bytes_of(alloc, digits)?;
-                let compound = read_compound(alloc, &bytes).map_err(|_| "a compound")?;
-                let op = compound.ops.items().first().ok_or("an operation")?;
-                told = format!(in alloc; "{op:?}")?;
-            }
-        }
-        assert_eq!(rt; told.as_str(), text, "{name}");
+        let bytes = vector(alloc, name)?;
+        let compound = read_compound(alloc, &bytes).map_err(|_| "a compound")?;
+        let op = compound.ops.items().first().ok_or("an operation")?;
+        let told = format!(in alloc; "{op:?}")?;
+        assert_eq!(rt; told.as_str(), text);
     }
     Ok(())
 }
@@ -267,33 +272,29 @@ fn fields_are_read_into_their_places(rt: HostRuntime) -> Result<(), Fail> {
 #[test]
 fn numbers_outside_their_range_cant_be_read(rt: HostRuntime) -> Result<(), Fail> {
     let alloc = rt.alloc();
-    // the vector, the place of a word in it, and a byte at its end that is one too few or too many
+    // the vector, the place of a word's last byte in it, and a byte that is one too few or too many
     let cases = [
-        ("LOCK-2-known", 20, 0),
-        ("LOCK-2-known", 20, 5),
-        ("LOCK-2-known", 24, 2),
-        ("LOCKT", 20, 5),
-        ("LOCKU", 20, 0),
-        ("CREATE-1", 20, 0),
-        ("CREATE-1", 20, 10),
-        ("OPEN-nocreate-null", 52, 2),
-        ("OPEN-nocreate-null", 56, 4),
-        ("OPEN-unchecked-null", 56, 3),
-        ("OPENATTR", 20, 2),
-        ("WRITE-0", 44, 3),
-        ("GETATTR", 20, 9),
-        ("PUTFH", 20, 129),
+        ("LOCK-2-known", 23, 0),
+        ("LOCK-2-known", 23, 5),
+        ("LOCK-2-known", 27, 2),
+        ("LOCKT", 23, 5),
+        ("LOCKU", 23, 0),
+        ("CREATE-1", 23, 0),
+        ("CREATE-1", 23, 10),
+        ("OPEN-nocreate-null", 55, 2),
+        ("OPEN-nocreate-null", 59, 4),
+        ("OPEN-unchecked-null", 59, 3),
+        ("OPENATTR", 23, 2),
+        ("WRITE-0", 47, 3),
+        ("GETATTR", 23, 9),
+        ("PUTFH", 23, 129),
     ];
     for (name, place, byte) in cases {
-        for (other, digits) in VECTORS {
-            if other == name {
-                let mut bytes = bytes_of(alloc, digits)?;
-                let op = u32::from(*bytes.get(19).ok_or("a number")?);
-                *bytes.get_mut(place + 3).ok_or("a byte")? = byte;
-                let told = outline(alloc, &bytes);
-                assert_eq!(rt; told, Ok((0, CompoundEnd::BadXdr { op })), "{name} {byte}");
-            }
-        }
+        let mut bytes = vector(alloc, name)?;
+        let op = u32::from(*bytes.get(19).ok_or("a number")?);
+        *bytes.get_mut(place).ok_or("a byte")? = byte;
+        let told = outline(alloc, &bytes);
+        assert_eq!(rt; told, Ok((0, CompoundEnd::BadXdr { op })), "{place} {byte}");
     }
     Ok(())
 }
