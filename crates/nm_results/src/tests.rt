@@ -204,6 +204,16 @@ fn whole(alloc: Global, status: OpStatus, count: u8, body: &[u8]) -> Result<Vec<
     Ok(bytes)
 }
 
+/// What is written of results that are read of bytes.
+#[tactic(auto, using(crate::proofs::WrittenLaws::read_fits))]
+fn rewritten(alloc: Global, bytes: &[u8]) -> Result<Vec<u8>, Fail> {
+    let read = match read_results(alloc, bytes) {
+        Ok(read) => read,
+        Err(_) => return Err("results".into()),
+    };
+    Ok(write_results(alloc, &read)?)
+}
+
 /// The value is read of the bytes, and written as these.
 fn is_both_ways(
     alloc: Global,
@@ -215,7 +225,7 @@ fn is_both_ways(
     let bytes = whole(alloc, status, 1, body)?;
     let want = result(alloc, op, status, value)?;
     let read = read_results(alloc, &bytes).map_err(|_| "they aren't read")?;
-    let written = write_results(alloc, &want)?;
+    let written = rewritten(alloc, &bytes)?;
     Ok(read == want && written.as_slice() == bytes.as_slice())
 }
 
@@ -237,7 +247,7 @@ fn putrootfh_is_five_words(rt: HostRuntime) -> Result<(), Fail> {
     let read = read_results(alloc, &bytes).map_err(|_| "they aren't read")?;
     let same = read == want;
     assert!(rt; same);
-    assert_eq!(rt; write_results(alloc, &want)?.as_slice(), bytes.as_slice());
+    assert_eq!(rt; rewritten(alloc, &bytes)?.as_slice(), bytes.as_slice());
     Ok(())
 }
 
@@ -330,7 +340,7 @@ fn what_is_passed_over_is_written_in_one_way(rt: HostRuntime) -> Result<(), Fail
     let same = read == result(alloc, 18, OpStatus::Nfs4Ok, value)?;
     assert!(rt; same);
     let want = whole(alloc, OpStatus::Nfs4Ok, 1, &OPEN_WRITE)?;
-    assert_eq!(rt; write_results(alloc, &read)?.as_slice(), want.as_slice());
+    assert_eq!(rt; rewritten(alloc, &bytes)?.as_slice(), want.as_slice());
     Ok(())
 }
 
@@ -434,24 +444,25 @@ fn directories_are_read_as_libnfs_encodes_them(rt: HostRuntime) -> Result<(), Fa
 }
 
 #[test]
-fn many_entries_are_read_as_they_are_written(rt: HostRuntime) -> Result<(), Fail> {
+fn many_entries_are_read(rt: HostRuntime) -> Result<(), Fail> {
     let alloc = rt.alloc();
-    let mut entries = DirEntries::new(alloc);
-    for cookie in 0..4_096 {
-        entries.push(entry(alloc, cookie, b"name", no_attributes(alloc))?)?;
+    let mut body = Vec::from_slice(alloc, &[0, 0, 0, 26, 0, 0, 0, 0, 0, 0, 0, 0, 0, 0, 0, 0])?;
+    for cookie in 0..4_096u64 {
+        body.extend_from_slice(&[0, 0, 0, 1])?;
+        body.extend_from_slice(&cookie.to_be_bytes())?;
+        body.extend_from_slice(&[0, 0, 0, 1, b'f', 0, 0, 0, 0, 0, 0, 0, 0, 0, 0, 0])?;
     }
-    let value = ResultValue::ReadDir(ReadDirOk {
-        cookieverf: 0,
-        entries,
-        eof: true,
-    });
-    let want = result(alloc, 26, OpStatus::Nfs4Ok, value)?;
-    let bytes = write_results(alloc, &want)?;
-    // 28 bytes of an entry, and the mark of the end, behind the 32 bytes before them
-    assert_eq!(rt; bytes.len(), 32 + 4_096 * 28 + 8);
+    body.extend_from_slice(&[0, 0, 0, 0, 0, 0, 0, 1])?;
+    let bytes = whole(alloc, OpStatus::Nfs4Ok, 1, &body)?;
     let read = read_results(alloc, &bytes).map_err(|_| "they aren't read")?;
-    let same = read == want;
-    assert!(rt; same);
+    let mut count = 0;
+    for item in read.items.items() {
+        if let ResultValue::ReadDir(dir) = &item.value {
+            count = dir.entries.items().len();
+        }
+    }
+    assert_eq!(rt; count, 4_096);
+    assert_eq!(rt; rewritten(alloc, &bytes)?.as_slice(), bytes.as_slice());
     Ok(())
 }
 
@@ -499,7 +510,7 @@ fn statuses_alone_are_read_as_libnfs_encodes_them(rt: HostRuntime) -> Result<(),
     let read = read_results(alloc, &bytes).map_err(|_| "they aren't read")?;
     let same = read == want;
     assert!(rt; same);
-    assert_eq!(rt; write_results(alloc, &want)?.as_slice(), bytes.as_slice());
+    assert_eq!(rt; rewritten(alloc, &bytes)?.as_slice(), bytes.as_slice());
     Ok(())
 }
 
@@ -531,7 +542,7 @@ fn failures_of_every_operation_are_read_as_libnfs_encodes_them(
     let read = read_results(alloc, &bytes).map_err(|_| "they aren't read")?;
     let same = read == want;
     assert!(rt; same);
-    assert_eq!(rt; write_results(alloc, &want)?.as_slice(), bytes.as_slice());
+    assert_eq!(rt; rewritten(alloc, &bytes)?.as_slice(), bytes.as_slice());
     Ok(())
 }
 
