@@ -167,19 +167,18 @@ fn fattr(alloc: Global) -> Result<Fattr, Fail> {
     })
 }
 
-/// Results with the tag of these.
-fn results(alloc: Global, status: OpStatus, ops: &[(u32, OpStatus)]) -> Result<Results, Fail> {
+/// Operations that are OK and have no value, with the tag of these.
+fn plain_results(alloc: Global, ops: &[u32]) -> Result<Results, Fail> {
     let mut items = ResultList::new(alloc);
-    for (op, status) in ops {
-        let value = ResultValue::Nothing;
+    for op in ops {
         items.push(OpResult {
             op: *op,
-            status: *status,
-            value,
+            status: OpStatus::Nfs4Ok,
+            value: ResultValue::Nothing,
         })?;
     }
     Ok(Results {
-        status,
+        status: OpStatus::Nfs4Ok,
         tag: Bytes::from_slice(alloc, b"tag")?,
         items,
     })
@@ -242,7 +241,7 @@ fn at(at: usize) -> Option<ResultsFault> {
 fn putrootfh_is_five_words(rt: HostRuntime) -> Result<(), Fail> {
     let alloc = rt.alloc();
     let bytes = [0, 0, 0, 0, 0, 0, 0, 0, 0, 0, 0, 1, 0, 0, 0, 24, 0, 0, 0, 0];
-    let mut want = results(alloc, OpStatus::Nfs4Ok, &[(24, OpStatus::Nfs4Ok)])?;
+    let mut want = plain_results(alloc, &[24])?;
     want.tag = Bytes::new(alloc);
     let read = read_results(alloc, &bytes).map_err(|_| "they aren't read")?;
     let same = read == want;
@@ -504,8 +503,7 @@ fn setattr_has_its_bitmap_with_a_failure(rt: HostRuntime) -> Result<(), Fail> {
 fn statuses_alone_are_read_as_libnfs_encodes_them(rt: HostRuntime) -> Result<(), Fail> {
     let alloc = rt.alloc();
     let plain = [8, 13, 15, 16, 22, 23, 24, 30, 31, 32, 36, 39];
-    let ops = plain.map(|op| (op, OpStatus::Nfs4Ok));
-    let want = results(alloc, OpStatus::Nfs4Ok, &ops)?;
+    let want = plain_results(alloc, &plain)?;
     let bytes = whole(alloc, OpStatus::Nfs4Ok, 12, &PLAIN)?;
     let read = read_results(alloc, &bytes).map_err(|_| "they aren't read")?;
     let same = read == want;
@@ -519,25 +517,33 @@ fn failures_of_every_operation_are_read_as_libnfs_encodes_them(
     rt: HostRuntime,
 ) -> Result<(), Fail> {
     let alloc = rt.alloc();
-    let mut want = results(alloc, OpStatus::OpIllegal, &[])?;
+    let mut items = ResultList::new(alloc);
     // libnfs has no SECINFO
-    for op in (3..33).chain(34..40) {
+    for op in 3..40 {
+        if op == 33 {
+            continue;
+        }
         let value = if op == 34 {
             ResultValue::SetAttr(Items::new(alloc))
         } else {
             ResultValue::Nothing
         };
-        want.items.push(OpResult {
+        items.push(OpResult {
             op,
             status: OpStatus::NotSupp,
             value,
         })?;
     }
-    want.items.push(OpResult {
+    items.push(OpResult {
         op: 10044,
         status: OpStatus::OpIllegal,
         value: ResultValue::Nothing,
     })?;
+    let want = Results {
+        status: OpStatus::OpIllegal,
+        tag: Bytes::from_slice(alloc, b"tag")?,
+        items,
+    };
     let bytes = whole(alloc, OpStatus::OpIllegal, 37, &FAILED)?;
     let read = read_results(alloc, &bytes).map_err(|_| "they aren't read")?;
     let same = read == want;
@@ -710,10 +716,10 @@ fn a_byte_left_over_is_told(rt: HostRuntime) -> Result<(), Fail> {
 }
 
 /// A whole message with one result, whose value is a length and so many bytes.
-fn of_length(alloc: Global, op: u8, length: u32) -> Result<Vec<u8>, Fail> {
+fn of_length(alloc: Global, op: u8, length: u32, padded: usize) -> Result<Vec<u8>, Fail> {
     let mut bytes = whole(alloc, OpStatus::Nfs4Ok, 1, &[0, 0, 0, op, 0, 0, 0, 0])?;
     bytes.extend_from_slice(&length.to_be_bytes())?;
-    bytes.resize(bytes.len() + (length as usize).div_ceil(4) * 4, 0)?;
+    bytes.resize(bytes.len().saturating_add(padded), 0)?;
     Ok(bytes)
 }
 
@@ -721,41 +727,38 @@ fn of_length(alloc: Global, op: u8, length: u32) -> Result<Vec<u8>, Fail> {
 fn a_length_may_be_its_limit(rt: HostRuntime) -> Result<(), Fail> {
     let alloc = rt.alloc();
     // GETFH: a filehandle of 128 bytes
-    assert_eq!(rt; fault(alloc, &of_length(alloc, 10, 128)?), None);
-    assert_eq!(rt; fault(alloc, &of_length(alloc, 10, 129)?), at(24));
-    assert_eq!(rt;
-        fault(alloc, &of_length(alloc, 10, u32::MAX / 4_096)?),
-        at(24)
-    );
+    assert_eq!(rt; fault(alloc, &of_length(alloc, 10, 128, 128)?), None);
+    assert_eq!(rt; fault(alloc, &of_length(alloc, 10, 129, 132)?), at(24));
+    assert_eq!(rt; fault(alloc, &of_length(alloc, 10, u32::MAX, 132)?), at(24));
     // SETATTR: 8 words
-    for (words, want) in [(8, None), (9, at(24))] {
-        let mut bytes = of_length(alloc, 34, 4 * words)?;
-        *bytes.get_mut(27).ok_or("a count")? = words as u8;
-        assert_eq!(rt; fault(alloc, &bytes), want, "{words} words");
-    }
+    assert_eq!(rt; fault(alloc, &of_length(alloc, 34, 8, 32)?), None);
+    assert_eq!(rt; fault(alloc, &of_length(alloc, 34, 9, 36)?), at(24));
     // the tag: 1,024 bytes
-    for (length, want) in [(1_024, None), (1_025, at(4))] {
-        let mut bytes = Vec::from_slice(alloc, &[0, 0, 0, 0])?;
-        bytes.extend_from_slice(&u32::to_be_bytes(length))?;
-        bytes.resize(12 + (length as usize).div_ceil(4) * 4, 0)?;
-        assert_eq!(rt; fault(alloc, &bytes), want, "a tag of {length}");
-    }
+    assert_eq!(rt; fault(alloc, &tagged(alloc, 1_024, 1_036)?), None);
+    assert_eq!(rt; fault(alloc, &tagged(alloc, 1_025, 1_040)?), at(4));
+    // READ: 65,536 bytes
+    assert_eq!(rt; fault(alloc, &of_data(alloc, 65_536, 65_536)?), None);
+    assert_eq!(rt; fault(alloc, &of_data(alloc, 65_537, 65_540)?), at(28));
     Ok(())
 }
 
-#[test]
-fn data_may_have_65536_bytes(rt: HostRuntime) -> Result<(), Fail> {
-    let alloc = rt.alloc();
-    for (length, want) in [(65_536, None), (65_537, at(28))] {
-        let mut bytes = whole(
-            alloc,
-            OpStatus::Nfs4Ok,
-            1,
-            &[0, 0, 0, 25, 0, 0, 0, 0, 0, 0, 0, 1],
-        )?;
-        bytes.extend_from_slice(&u32::to_be_bytes(length))?;
-        bytes.resize(32 + (length as usize).div_ceil(4) * 4, 0)?;
-        assert_eq!(rt; fault(alloc, &bytes), want, "{length} bytes");
-    }
-    Ok(())
+/// No results, with a tag of this length, in so many bytes.
+fn tagged(alloc: Global, length: u32, whole: usize) -> Result<Vec<u8>, Fail> {
+    let mut bytes = Vec::from_slice(alloc, &[0, 0, 0, 0])?;
+    bytes.extend_from_slice(&length.to_be_bytes())?;
+    bytes.resize(whole, 0)?;
+    Ok(bytes)
+}
+
+/// The result of READ with so many bytes.
+fn of_data(alloc: Global, length: u32, padded: usize) -> Result<Vec<u8>, Fail> {
+    let mut bytes = whole(
+        alloc,
+        OpStatus::Nfs4Ok,
+        1,
+        &[0, 0, 0, 25, 0, 0, 0, 0, 0, 0, 0, 1],
+    )?;
+    bytes.extend_from_slice(&length.to_be_bytes())?;
+    bytes.resize(bytes.len().saturating_add(padded), 0)?;
+    Ok(bytes)
 }
