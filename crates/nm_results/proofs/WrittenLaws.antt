@@ -1,8 +1,9 @@
 -- What is written of results is these results.
-use Rattle.std.proofs.Common.{◌≡◌, ℕ, ◌+◌, ◌^◌, ◌≤◌, ◌<◌, List, [], ◌∷◌, ◌++◌, length, All, refl, sym, ap, subst, ◌∙◌, arith}
+use Rattle.std.proofs.Common.{◌≡◌, ℕ, ◌+◌, ◌^◌, ◌≤◌, ◌<◌, List, [], ◌∷◌, ◌++◌, length, All, Ok, refl, sym, ap, subst, ◌∙◌, arith}
 use Rattle.std.proofs.lemmas.List.{append-nil}
 use Rattle.std.proofs.lemmas.List.Elements.{All-from_recursion, recursion_from_All}
 use Rattle.std.specs.List.{AllByRecursion, flat_map}
+use Rattle.nm_xdr.specs.Fields.{IsBytes}
 use Rattle.nm_xdr.specs.Items.{word, opaque}
 use Rattle.nm_rules.specs.Statuses.{number_of}
 use Rattle.nm_rules.specs.declared.results.OpenDelegation.{OpenDelegation}
@@ -17,7 +18,8 @@ use Rattle.nm_results.specs.declared.values.LockDenied.{LockDenied}
 use Rattle.nm_results.specs.Opens.{AnyDelegation, none, reads, writes, IsAnyDelegation, delegation_of, IsDelegation, written_delegation, AnyOpen, IsAnyOpen, IsOpen, open_of, open_bytes, written_open}
 use Rattle.nm_results.specs.Locks.{AnyDenied, IsAnyDenied, IsDenied, denied, denied_of, number_of_kind, kind_of_number, written_denied}
 use Rattle.nm_results.specs.Values.{value_bytes, IsValue, Keeps, IsSpelling}
-use Rattle.nm_results.specs.Results.{result_bytes, results_bytes, IsOpResult, AreResults, IsResult, AreRows, IsResults}
+use Rattle.nm_results.specs.Results.{results_of, result_bytes, results_bytes, IsOpResult, AreResults, IsResult, AreRows, IsResults}
+use Rattle.nm_results.proofs.ResultLaws.{results_found}
 
 -- ---- Values
 
@@ -141,3 +143,7 @@ rows_fit (r ∷ rs) bytes are = (record { op = are.2.op; arm = are.2.arm; value 
 -- Results that some bytes are can be written.
 pub results_fit : (v : Results) (bytes : List ℕ) → IsResults v bytes → AreResults v
 results_fit v bytes is = record { tag = is.tag; count = is.count; each = All-from_recursion IsOpResult v.items (rows_fit v.items is.rows is.each) }
+
+-- Results that were read can be written.
+pub read_fits : (bytes : List ℕ) (v : Results) → IsBytes bytes → results_of bytes ≡ Ok v → AreResults v
+read_fits bytes v fits e = results_fit v bytes (results_found v bytes fits e)

@@ -11,9 +11,10 @@ pub fn results_are_read_as_spelled()
 {}
 
 /// What is written of results is these results, and is read again as what was written. Results can be written exactly where
-/// some bytes are these results.
+/// some bytes are these results, so those that were read can be.
 pub fn results_are_read_as_written()
     ensures spelled { (v : AnyResults) → AreResults v → IsResults v (results_bytes v) }
     ensures read { (v : AnyResults) → AreResults v → results_of (results_bytes v) ≡ Ok v }
     ensures condition { (v : AnyResults) (bytes : List ℕ) → IsResults v bytes → AreResults v }
+    ensures once_read { (bytes : List ℕ) (v : AnyResults) → IsBytes bytes → results_of bytes ≡ Ok v → AreResults v }
 {}

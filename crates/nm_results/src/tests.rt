@@ -167,19 +167,18 @@ fn fattr(alloc: Global) -> Result<Fattr, Fail> {
     })
 }
 
-/// Results with the tag of these.
-fn results(alloc: Global, status: OpStatus, ops: &[(u32, OpStatus)]) -> Result<Results, Fail> {
+/// Operations that are OK and have no value, with the tag of these.
+fn plain_results(alloc: Global, ops: &[u32]) -> Result<Results, Fail> {
     let mut items = ResultList::new(alloc);
-    for (op, status) in ops {
-        let value = ResultValue::Nothing;
+    for op in ops {
         items.push(OpResult {
             op: *op,
-            status: *status,
-            value,
+            status: OpStatus::Nfs4Ok,
+            value: ResultValue::Nothing,
         })?;
     }
     Ok(Results {
-        status,
+        status: OpStatus::Nfs4Ok,
         tag: Bytes::from_slice(alloc, b"tag")?,
         items,
     })
@@ -204,6 +203,16 @@ fn whole(alloc: Global, status: OpStatus, count: u8, body: &[u8]) -> Result<Vec<
     Ok(bytes)
 }
 
+/// What is written of results that are read of bytes.
+#[tactic(auto, using(crate::proofs::WrittenLaws::read_fits))]
+fn rewritten(alloc: Global, bytes: &[u8]) -> Result<Vec<u8>, Fail> {
+    let read = match read_results(alloc, bytes) {
+        Ok(read) => read,
+        Err(_) => return Err("results".into()),
+    };
+    Ok(write_results(alloc, &read)?)
+}
+
 /// The value is read of the bytes, and written as these.
 fn is_both_ways(
     alloc: Global,
@@ -215,7 +224,7 @@ fn is_both_ways(
     let bytes = whole(alloc, status, 1, body)?;
     let want = result(alloc, op, status, value)?;
     let read = read_results(alloc, &bytes).map_err(|_| "they aren't read")?;
-    let written = write_results(alloc, &want)?;
+    let written = rewritten(alloc, &bytes)?;
     Ok(read == want && written.as_slice() == bytes.as_slice())
 }
 
@@ -232,12 +241,12 @@ fn at(at: usize) -> Option<ResultsFault> {
 fn putrootfh_is_five_words(rt: HostRuntime) -> Result<(), Fail> {
     let alloc = rt.alloc();
     let bytes = [0, 0, 0, 0, 0, 0, 0, 0, 0, 0, 0, 1, 0, 0, 0, 24, 0, 0, 0, 0];
-    let mut want = results(alloc, OpStatus::Nfs4Ok, &[(24, OpStatus::Nfs4Ok)])?;
+    let mut want = plain_results(alloc, &[24])?;
     want.tag = Bytes::new(alloc);
     let read = read_results(alloc, &bytes).map_err(|_| "they aren't read")?;
     let same = read == want;
     assert!(rt; same);
-    assert_eq!(rt; write_results(alloc, &want)?.as_slice(), bytes.as_slice());
+    assert_eq!(rt; rewritten(alloc, &bytes)?.as_slice(), bytes.as_slice());
     Ok(())
 }
 
@@ -330,7 +339,7 @@ fn what_is_passed_over_is_written_in_one_way(rt: HostRuntime) -> Result<(), Fail
     let same = read == result(alloc, 18, OpStatus::Nfs4Ok, value)?;
     assert!(rt; same);
     let want = whole(alloc, OpStatus::Nfs4Ok, 1, &OPEN_WRITE)?;
-    assert_eq!(rt; write_results(alloc, &read)?.as_slice(), want.as_slice());
+    assert_eq!(rt; rewritten(alloc, &bytes)?.as_slice(), want.as_slice());
     Ok(())
 }
 
@@ -434,24 +443,25 @@ fn directories_are_read_as_libnfs_encodes_them(rt: HostRuntime) -> Result<(), Fa
 }
 
 #[test]
-fn many_entries_are_read_as_they_are_written(rt: HostRuntime) -> Result<(), Fail> {
+fn many_entries_are_read(rt: HostRuntime) -> Result<(), Fail> {
     let alloc = rt.alloc();
-    let mut entries = DirEntries::new(alloc);
-    for cookie in 0..4_096 {
-        entries.push(entry(alloc, cookie, b"name", no_attributes(alloc))?)?;
+    let mut body = Vec::from_slice(alloc, &[0, 0, 0, 26, 0, 0, 0, 0, 0, 0, 0, 0, 0, 0, 0, 0])?;
+    for cookie in 0..4_096u64 {
+        body.extend_from_slice(&[0, 0, 0, 1])?;
+        body.extend_from_slice(&cookie.to_be_bytes())?;
+        body.extend_from_slice(&[0, 0, 0, 1, b'f', 0, 0, 0, 0, 0, 0, 0, 0, 0, 0, 0])?;
     }
-    let value = ResultValue::ReadDir(ReadDirOk {
-        cookieverf: 0,
-        entries,
-        eof: true,
-    });
-    let want = result(alloc, 26, OpStatus::Nfs4Ok, value)?;
-    let bytes = write_results(alloc, &want)?;
-    // 28 bytes of an entry, and the mark of the end, behind the 32 bytes before them
-    assert_eq!(rt; bytes.len(), 32 + 4_096 * 28 + 8);
+    body.extend_from_slice(&[0, 0, 0, 0, 0, 0, 0, 1])?;
+    let bytes = whole(alloc, OpStatus::Nfs4Ok, 1, &body)?;
     let read = read_results(alloc, &bytes).map_err(|_| "they aren't read")?;
-    let same = read == want;
-    assert!(rt; same);
+    let mut count = 0;
+    for item in read.items.items() {
+        if let ResultValue::ReadDir(dir) = &item.value {
+            count = dir.entries.items().len();
+        }
+    }
+    assert_eq!(rt; count, 4_096);
+    assert_eq!(rt; rewritten(alloc, &bytes)?.as_slice(), bytes.as_slice());
     Ok(())
 }
 
@@ -493,13 +503,12 @@ fn setattr_has_its_bitmap_with_a_failure(rt: HostRuntime) -> Result<(), Fail> {
 fn statuses_alone_are_read_as_libnfs_encodes_them(rt: HostRuntime) -> Result<(), Fail> {
     let alloc = rt.alloc();
     let plain = [8, 13, 15, 16, 22, 23, 24, 30, 31, 32, 36, 39];
-    let ops = plain.map(|op| (op, OpStatus::Nfs4Ok));
-    let want = results(alloc, OpStatus::Nfs4Ok, &ops)?;
+    let want = plain_results(alloc, &plain)?;
     let bytes = whole(alloc, OpStatus::Nfs4Ok, 12, &PLAIN)?;
     let read = read_results(alloc, &bytes).map_err(|_| "they aren't read")?;
     let same = read == want;
     assert!(rt; same);
-    assert_eq!(rt; write_results(alloc, &want)?.as_slice(), bytes.as_slice());
+    assert_eq!(rt; rewritten(alloc, &bytes)?.as_slice(), bytes.as_slice());
     Ok(())
 }
 
@@ -508,30 +517,38 @@ fn failures_of_every_operation_are_read_as_libnfs_encodes_them(
     rt: HostRuntime,
 ) -> Result<(), Fail> {
     let alloc = rt.alloc();
-    let mut want = results(alloc, OpStatus::OpIllegal, &[])?;
+    let mut items = ResultList::new(alloc);
     // libnfs has no SECINFO
-    for op in (3..33).chain(34..40) {
+    for op in 3..40 {
+        if op == 33 {
+            continue;
+        }
         let value = if op == 34 {
             ResultValue::SetAttr(Items::new(alloc))
         } else {
             ResultValue::Nothing
         };
-        want.items.push(OpResult {
+        items.push(OpResult {
             op,
             status: OpStatus::NotSupp,
             value,
         })?;
     }
-    want.items.push(OpResult {
+    items.push(OpResult {
         op: 10044,
         status: OpStatus::OpIllegal,
         value: ResultValue::Nothing,
     })?;
+    let want = Results {
+        status: OpStatus::OpIllegal,
+        tag: Bytes::from_slice(alloc, b"tag")?,
+        items,
+    };
     let bytes = whole(alloc, OpStatus::OpIllegal, 37, &FAILED)?;
     let read = read_results(alloc, &bytes).map_err(|_| "they aren't read")?;
     let same = read == want;
     assert!(rt; same);
-    assert_eq!(rt; write_results(alloc, &want)?.as_slice(), bytes.as_slice());
+    assert_eq!(rt; rewritten(alloc, &bytes)?.as_slice(), bytes.as_slice());
     Ok(())
 }
 
@@ -699,10 +716,10 @@ fn a_byte_left_over_is_told(rt: HostRuntime) -> Result<(), Fail> {
 }
 
 /// A whole message with one result, whose value is a length and so many bytes.
-fn of_length(alloc: Global, op: u8, length: u32) -> Result<Vec<u8>, Fail> {
+fn of_length(alloc: Global, op: u8, length: u32, padded: usize) -> Result<Vec<u8>, Fail> {
     let mut bytes = whole(alloc, OpStatus::Nfs4Ok, 1, &[0, 0, 0, op, 0, 0, 0, 0])?;
     bytes.extend_from_slice(&length.to_be_bytes())?;
-    bytes.resize(bytes.len() + (length as usize).div_ceil(4) * 4, 0)?;
+    bytes.resize(bytes.len().saturating_add(padded), 0)?;
     Ok(bytes)
 }
 
@@ -710,41 +727,38 @@ fn of_length(alloc: Global, op: u8, length: u32) -> Result<Vec<u8>, Fail> {
 fn a_length_may_be_its_limit(rt: HostRuntime) -> Result<(), Fail> {
     let alloc = rt.alloc();
     // GETFH: a filehandle of 128 bytes
-    assert_eq!(rt; fault(alloc, &of_length(alloc, 10, 128)?), None);
-    assert_eq!(rt; fault(alloc, &of_length(alloc, 10, 129)?), at(24));
-    assert_eq!(rt;
-        fault(alloc, &of_length(alloc, 10, u32::MAX / 4_096)?),
-        at(24)
-    );
+    assert_eq!(rt; fault(alloc, &of_length(alloc, 10, 128, 128)?), None);
+    assert_eq!(rt; fault(alloc, &of_length(alloc, 10, 129, 132)?), at(24));
+    assert_eq!(rt; fault(alloc, &of_length(alloc, 10, u32::MAX, 132)?), at(24));
     // SETATTR: 8 words
-    for (words, want) in [(8, None), (9, at(24))] {
-        let mut bytes = of_length(alloc, 34, 4 * words)?;
-        *bytes.get_mut(27).ok_or("a count")? = words as u8;
-        assert_eq!(rt; fault(alloc, &bytes), want, "{words} words");
-    }
+    assert_eq!(rt; fault(alloc, &of_length(alloc, 34, 8, 32)?), None);
+    assert_eq!(rt; fault(alloc, &of_length(alloc, 34, 9, 36)?), at(24));
     // the tag: 1,024 bytes
-    for (length, want) in [(1_024, None), (1_025, at(4))] {
-        let mut bytes = Vec::from_slice(alloc, &[0, 0, 0, 0])?;
-        bytes.extend_from_slice(&u32::to_be_bytes(length))?;
-        bytes.resize(12 + (length as usize).div_ceil(4) * 4, 0)?;
-        assert_eq!(rt; fault(alloc, &bytes), want, "a tag of {length}");
-    }
+    assert_eq!(rt; fault(alloc, &tagged(alloc, 1_024, 1_036)?), None);
+    assert_eq!(rt; fault(alloc, &tagged(alloc, 1_025, 1_040)?), at(4));
+    // READ: 65,536 bytes
+    assert_eq!(rt; fault(alloc, &of_data(alloc, 65_536, 65_536)?), None);
+    assert_eq!(rt; fault(alloc, &of_data(alloc, 65_537, 65_540)?), at(28));
     Ok(())
 }
 
-#[test]
-fn data_may_have_65536_bytes(rt: HostRuntime) -> Result<(), Fail> {
-    let alloc = rt.alloc();
-    for (length, want) in [(65_536, None), (65_537, at(28))] {
-        let mut bytes = whole(
-            alloc,
-            OpStatus::Nfs4Ok,
-            1,
-            &[0, 0, 0, 25, 0, 0, 0, 0, 0, 0, 0, 1],
-        )?;
-        bytes.extend_from_slice(&u32::to_be_bytes(length))?;
-        bytes.resize(32 + (length as usize).div_ceil(4) * 4, 0)?;
-        assert_eq!(rt; fault(alloc, &bytes), want, "{length} bytes");
-    }
-    Ok(())
+/// No results, with a tag of this length, in so many bytes.
+fn tagged(alloc: Global, length: u32, whole: usize) -> Result<Vec<u8>, Fail> {
+    let mut bytes = Vec::from_slice(alloc, &[0, 0, 0, 0])?;
+    bytes.extend_from_slice(&length.to_be_bytes())?;
+    bytes.resize(whole, 0)?;
+    Ok(bytes)
+}
+
+/// The result of READ with so many bytes.
+fn of_data(alloc: Global, length: u32, padded: usize) -> Result<Vec<u8>, Fail> {
+    let mut bytes = whole(
+        alloc,
+        OpStatus::Nfs4Ok,
+        1,
+        &[0, 0, 0, 25, 0, 0, 0, 0, 0, 0, 0, 1],
+    )?;
+    bytes.extend_from_slice(&length.to_be_bytes())?;
+    bytes.resize(bytes.len().saturating_add(padded), 0)?;
+    Ok(bytes)
 }
