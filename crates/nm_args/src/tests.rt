@@ -165,102 +165,115 @@ fn a_word_of_ones_is_read_or_ends_by_name(rt: HostRuntime) -> Result<(), Fail> {
     Ok(())
 }
 
-/// Fields of some of these, as they were given to the other codec.
+/// Some of these, and their fields as they were given to the other codec.
 const FIELDS: [(&str, &str); 20] = [
     (
-        "CLOSE",
+        // CLOSE
+        "00000003746167000000000000000001000000040000000400000007000000030000000000000009",
         "Close(CloseArgs { seqid: 4, stateid: Named(StateId { seqid: 7, fs: 3, counter: 9 }) })",
     ),
-    ("COMMIT", "Commit(CommitArgs { offset: 4096, count: 512 })"),
     (
-        "CREATE-4",
+        // COMMIT
+        "0000000374616700000000000000000100000005000000000000100000000200",
+        "Commit(CommitArgs { offset: 4096, count: 512 })",
+    ),
+    (
+        // CREATE-4
+        "0000000374616700000000000000000100000006000000040000000800000001000000046e616d650000000200000010000000020000000c0000000000000005000001a4",
         "Create(CreateArgs { kind: Character(Device { major: 8, minor: 1 }), name: Items { items: [110, 97, 109, 101] }, attributes: Fattr { words: Items { items: [16, 2] }, values: Items { items: [0, 0, 0, 0, 0, 0, 0, 5, 0, 0, 1, 164] } } })",
     ),
     (
-        "CREATE-5",
+        // CREATE-5
+        "00000003746167000000000000000001000000060000000500000002746f0000000000046e616d650000000200000010000000020000000c0000000000000005000001a4",
         "Create(CreateArgs { kind: Link(Items { items: [116, 111] }), name: Items { items: [110, 97, 109, 101] }, attributes: Fattr { words: Items { items: [16, 2] }, values: Items { items: [0, 0, 0, 0, 0, 0, 0, 5, 0, 0, 1, 164] } } })",
     ),
     (
-        "LOCK-1-new",
+        // LOCK-1-new
+        "000000037461670000000000000000010000000c0000000100000000000000000000000affffffffffffffff000000010000000200000007000000030000000000000009000000010000000000000005000000046c6f636b",
         "Lock(OwnedLock { clientid: 5, args: LockArgs { kind: Read, reclaim: false, offset: 10, length: 18446744073709551615, locker: New { open_seqid: 2, stateid: Named(StateId { seqid: 7, fs: 3, counter: 9 }), lock_seqid: 1, owner: Items { items: [108, 111, 99, 107] } } } })",
     ),
     (
-        "LOCK-3-known",
+        // LOCK-3-known
+        "000000037461670000000000000000010000000c0000000300000000000000000000000affffffffffffffff000000000000000700000003000000000000000900000006",
         "Lock(OwnedLock { clientid: 0, args: LockArgs { kind: ReadWait, reclaim: false, offset: 10, length: 18446744073709551615, locker: Known { stateid: Named(StateId { seqid: 7, fs: 3, counter: 9 }), lock_seqid: 6 } } })",
     ),
     (
-        "LOCKT",
+        // LOCKT
+        "000000037461670000000000000000010000000d00000002000000000000000100000000000000020000000000000005000000046c6f636b",
         "LockT(OwnedLockTest { clientid: 5, args: LockTestArgs { kind: Write, offset: 1, length: 2, owner: Items { items: [108, 111, 99, 107] } } })",
     ),
     (
-        "LOCKU",
+        // LOCKU
+        "000000037461670000000000000000010000000e00000001000000030000000700000003000000000000000900000000000000010000000000000002",
         "LockU(UnlockArgs { kind: Read, seqid: 3, stateid: Named(StateId { seqid: 7, fs: 3, counter: 9 }), offset: 1, length: 2 })",
     ),
     (
-        "OPEN-exclusive-null",
+        // OPEN-exclusive-null
+        "00000003746167000000000000000001000000120000000400000003000000010102030405060708000000056f776e657200000000000001000000027665726966696572000000000000000466696c65",
         "Open(OwnedOpen { clientid: 72623859790382856, args: WireOpenArgs { seqid: 4, access: 3, deny: 1, owner: Items { items: [111, 119, 110, 101, 114] }, opentype: Exclusive(8531350866138588530), claim: Null(Items { items: [102, 105, 108, 101] }) } })",
     ),
     (
-        "OPEN-guarded-null",
+        // OPEN-guarded-null
+        "00000003746167000000000000000001000000120000000400000003000000010102030405060708000000056f776e657200000000000001000000010000000200000010000000020000000c0000000000000005000001a4000000000000000466696c65",
         "Open(OwnedOpen { clientid: 72623859790382856, args: WireOpenArgs { seqid: 4, access: 3, deny: 1, owner: Items { items: [111, 119, 110, 101, 114] }, opentype: Guarded(Fattr { words: Items { items: [16, 2] }, values: Items { items: [0, 0, 0, 0, 0, 0, 0, 5, 0, 0, 1, 164] } }), claim: Null(Items { items: [102, 105, 108, 101] }) } })",
     ),
     (
-        "OPEN-nocreate-previous",
+        // OPEN-nocreate-previous
+        "00000003746167000000000000000001000000120000000400000003000000010102030405060708000000056f776e6572000000000000000000000100000002",
         "Open(OwnedOpen { clientid: 72623859790382856, args: WireOpenArgs { seqid: 4, access: 3, deny: 1, owner: Items { items: [111, 119, 110, 101, 114] }, opentype: NoCreate, claim: Previous(2) } })",
     ),
     (
-        "OPEN-nocreate-delegate-cur",
+        // OPEN-nocreate-delegate-cur
+        "00000003746167000000000000000001000000120000000400000003000000010102030405060708000000056f776e65720000000000000000000002000000070000000300000000000000090000000466696c65",
         "Open(OwnedOpen { clientid: 72623859790382856, args: WireOpenArgs { seqid: 4, access: 3, deny: 1, owner: Items { items: [111, 119, 110, 101, 114] }, opentype: NoCreate, claim: DelegateCur { stateid: Named(StateId { seqid: 7, fs: 3, counter: 9 }), name: Items { items: [102, 105, 108, 101] } } } })",
     ),
     (
-        "OPEN_CONFIRM",
+        // OPEN_CONFIRM
+        "00000003746167000000000000000001000000140000000700000003000000000000000900000005",
         "OpenConfirm(OpenConfirmArgs { stateid: Named(StateId { seqid: 7, fs: 3, counter: 9 }), seqid: 5 })",
     ),
     (
-        "OPEN_DOWNGRADE",
+        // OPEN_DOWNGRADE
+        "000000037461670000000000000000010000001500000007000000030000000000000009000000060000000100000002",
         "OpenDowngrade(OpenDowngradeArgs { stateid: Named(StateId { seqid: 7, fs: 3, counter: 9 }), seqid: 6, access: 1, deny: 2 })",
     ),
     (
-        "READ",
+        // READ
+        "000000037461670000000000000000010000001900000007000000030000000000000009000000000000000800000009",
         "Read(ReadArgs { stateid: Named(StateId { seqid: 7, fs: 3, counter: 9 }), offset: 8, count: 9 })",
     ),
     (
-        "READDIR",
+        // READDIR
+        "000000037461670000000000000000010000001a0000000000000003636f6f6b6965732100000064000000c8000000020000001000000002",
         "ReadDir(ReadDirArgs { cookie: 3, verifier: 7165068039290188577, dircount: 100, maxcount: 200, words: Items { items: [16, 2] } })",
     ),
     (
-        "RENAME",
+        // RENAME
+        "000000037461670000000000000000010000001d000000036f6c6400000000056e65776572000000",
         "Rename(RenameArgs { from: Items { items: [111, 108, 100] }, to: Items { items: [110, 101, 119, 101, 114] } })",
     ),
     (
-        "SETCLIENTID",
+        // SETCLIENTID
+        "000000037461670000000000000000010000002376657269666965720000000a6e66736d6f76652f433100004000000000000003746370000000000d3132372e302e302e312e382e3100000000000001",
         "SetClientId(SetClientIdArgs { verifier: 8531350866138588530, id: Items { items: [110, 102, 115, 109, 111, 118, 101, 47, 67, 49] }, program: 1073741824, netid: Items { items: [116, 99, 112] }, addr: Items { items: [49, 50, 55, 46, 48, 46, 48, 46, 49, 46, 56, 46, 49] }, ident: 1 })",
     ),
     (
-        "SETCLIENTID_CONFIRM",
+        // SETCLIENTID_CONFIRM
+        "00000003746167000000000000000001000000240000000000000005636f6e6669726d21",
         "SetClientIdConfirm(SetClientIdConfirmArgs { clientid: 5, verifier: 7165066918304574753 })",
     ),
     (
-        "WRITE-1",
+        // WRITE-1
+        "000000037461670000000000000000010000002600000007000000030000000000000009000000000000000800000001000000056279746573000000",
         "Write(WriteArgs { stateid: Named(StateId { seqid: 7, fs: 3, counter: 9 }), offset: 8, stable: DataSync, data: Items { items: [98, 121, 116, 101, 115] } })",
     ),
 ];
 
-/// The bytes of the vector of this name.
-fn vector(alloc: Global, name: &str) -> Result<Vec<u8>, Fail> {
-    for (other, digits) in VECTORS {
-        if other == name {
-            return bytes_of(alloc, digits);
-        }
-    }
-    Err("a vector".into())
-}
-
 #[test]
 fn fields_are_read_into_their_places(rt: HostRuntime) -> Result<(), Fail> {
     let alloc = rt.alloc();
-    for (name, text) in FIELDS {
-        let bytes = vector(alloc, name)?;
+    for (digits, text) in FIELDS {
+        let bytes = bytes_of(alloc, digits)?;
         let compound = read_compound(alloc, &bytes).map_err(|_| "a compound")?;
         let op = compound.ops.items().first().ok_or("an operation")?;
         let told = format!(in alloc; "{op:?}")?;
@@ -269,28 +282,99 @@ fn fields_are_read_into_their_places(rt: HostRuntime) -> Result<(), Fail> {
     Ok(())
 }
 
+/// Some of these, the place of a word's last byte in it, and a byte there that is one too few or too many.
+const OUTSIDE: [(&str, usize, u8); 14] = [
+    (
+        // LOCK-2-known
+        "000000037461670000000000000000010000000c0000000200000000000000000000000affffffffffffffff000000000000000700000003000000000000000900000006",
+        23,
+        0,
+    ),
+    (
+        // LOCK-2-known
+        "000000037461670000000000000000010000000c0000000200000000000000000000000affffffffffffffff000000000000000700000003000000000000000900000006",
+        23,
+        5,
+    ),
+    (
+        // LOCK-2-known
+        "000000037461670000000000000000010000000c0000000200000000000000000000000affffffffffffffff000000000000000700000003000000000000000900000006",
+        27,
+        2,
+    ),
+    (
+        // LOCKT
+        "000000037461670000000000000000010000000d00000002000000000000000100000000000000020000000000000005000000046c6f636b",
+        23,
+        5,
+    ),
+    (
+        // LOCKU
+        "000000037461670000000000000000010000000e00000001000000030000000700000003000000000000000900000000000000010000000000000002",
+        23,
+        0,
+    ),
+    (
+        // CREATE-1
+        "000000037461670000000000000000010000000600000001000000046e616d650000000200000010000000020000000c0000000000000005000001a4",
+        23,
+        0,
+    ),
+    (
+        // CREATE-1
+        "000000037461670000000000000000010000000600000001000000046e616d650000000200000010000000020000000c0000000000000005000001a4",
+        23,
+        10,
+    ),
+    (
+        // OPEN-nocreate-null
+        "00000003746167000000000000000001000000120000000400000003000000010102030405060708000000056f776e657200000000000000000000000000000466696c65",
+        55,
+        2,
+    ),
+    (
+        // OPEN-nocreate-null
+        "00000003746167000000000000000001000000120000000400000003000000010102030405060708000000056f776e657200000000000000000000000000000466696c65",
+        59,
+        4,
+    ),
+    (
+        // OPEN-unchecked-null
+        "00000003746167000000000000000001000000120000000400000003000000010102030405060708000000056f776e657200000000000001000000000000000200000010000000020000000c0000000000000005000001a4000000000000000466696c65",
+        59,
+        3,
+    ),
+    (
+        // OPENATTR
+        "000000037461670000000000000000010000001300000001",
+        23,
+        2,
+    ),
+    (
+        // WRITE-0
+        "000000037461670000000000000000010000002600000007000000030000000000000009000000000000000800000000000000056279746573000000",
+        47,
+        3,
+    ),
+    (
+        // GETATTR
+        "0000000374616700000000000000000100000009000000020000001000000002",
+        23,
+        9,
+    ),
+    (
+        // PUTFH
+        "00000003746167000000000000000001000000160000000668616e646c650000",
+        23,
+        129,
+    ),
+];
+
 #[test]
 fn numbers_outside_their_range_cant_be_read(rt: HostRuntime) -> Result<(), Fail> {
     let alloc = rt.alloc();
-    // the vector, the place of a word's last byte in it, and a byte that is one too few or too many
-    let cases = [
-        ("LOCK-2-known", 23, 0),
-        ("LOCK-2-known", 23, 5),
-        ("LOCK-2-known", 27, 2),
-        ("LOCKT", 23, 5),
-        ("LOCKU", 23, 0),
-        ("CREATE-1", 23, 0),
-        ("CREATE-1", 23, 10),
-        ("OPEN-nocreate-null", 55, 2),
-        ("OPEN-nocreate-null", 59, 4),
-        ("OPEN-unchecked-null", 59, 3),
-        ("OPENATTR", 23, 2),
-        ("WRITE-0", 47, 3),
-        ("GETATTR", 23, 9),
-        ("PUTFH", 23, 129),
-    ];
-    for (name, place, byte) in cases {
-        let mut bytes = vector(alloc, name)?;
+    for (digits, place, byte) in OUTSIDE {
+        let mut bytes = bytes_of(alloc, digits)?;
         let op = u32::from(*bytes.get(19).ok_or("a number")?);
         *bytes.get_mut(place).ok_or("a byte")? = byte;
         let told = outline(alloc, &bytes);
