@@ -1,33 +1,47 @@
 -- The tables of every legal list are sound, and show what stands.
 use Rattle.std.proofs.Common.{◌≡◌, ℕ, ◌+◌, Bool, true, false, cond, List, [], ◌∷◌, Option, Some, None, refl, ap, sym, subst, ◌∙◌, arith}
-use Rattle.std.specs.Prelude.{is_none, not, nat_le, ◌==◌, ◌||◌, ◌-◌, ◌%◌, filter}
+use Rattle.std.specs.Prelude.{map, is_none, not, ◌==◌, ◌||◌, ◌&&◌, filter, find, option_map, unwrap_or}
+use Rattle.std.specs.Str.{bytes_eq}
+use mathlib.Core.Path.{fun_ext}
 use Rattle.std.proofs.lemmas.Bool.{not-false, true≢false}
 use Rattle.nm_rules.specs.Parties.{Party, same_party}
-use Rattle.nm_rules.specs.Files.{file_at}
+use Rattle.nm_rules.specs.Lists.{is_empty}
+use Rattle.nm_rules.specs.Attributes.{Asks, asks_of, asked_size, asked_mode, has_size}
+use Rattle.nm_rules.specs.Contents.{TreeNow, TreeWord, FileEdit, root_row, taken, file_at, child_at, is_named, stamped, edited_at, tree_after}
+use Rattle.nm_rules.specs.Contents.TreeWord.{Untouched, Made, Edited, Removed}
+use Rattle.nm_rules.specs.Contents.FileEdit.{Wrote, Set}
 use Rattle.nm_rules.specs.Shares.{open_at, open_of, opened_row, is_opposed, put_open, opens_after, OpenWord}
 use Rattle.nm_rules.specs.Shares.OpenWord.{Drop, DropOf}
-use Rattle.nm_rules.specs.Past.{Past, Now, now, left, words, no_words, is_done, deed_words, opened_words, close_words, opener}
-use Rattle.nm_rules.specs.Seen.{Seen, seen, look, after, after_words}
-use Rattle.nm_rules.specs.Checks.{Stop, first, nothing_stops}
+use Rattle.nm_rules.specs.Past.{Past, Now, now, left, words, no_words, is_done, deed_words, nothing_yet, open_words, opened_words, close_words, create_words, opener, open_tree, claimed_in, claimed_name, cuts, parent_of, set_tree, write_tree}
+use Rattle.nm_rules.specs.Seen.{Seen, empty, seen, look, after, after_words}
+use Rattle.nm_rules.specs.Checks.{Checks, Stop, first, arguments_fault}
 use Rattle.nm_rules.specs.Checks.Stop.{Refuse, Repeat}
-use Rattle.nm_rules.specs.Opens.{stateid_of, open_checks, GoesOpen, open_value, close_checks, close_checks_at, close_value, closed_stateid, open_named, row_to_open, file_to_open, lease_stop, refuse_if, finds_none, is_share, draws_past_end, makes_past_end, seqid_stop, given_seqid, is_own}
+use Rattle.nm_rules.specs.Data.{read_checks, write_checks, write_value, setattr_checks, size_checks, mode_checks, commit_checks}
+use Rattle.nm_rules.specs.Files.{file_checks, dir_checks, lookup_checks, create_checks, create_value, remove_checks, readdir_checks}
+use Rattle.nm_rules.specs.Opens.{open_checks, GoesOpen, open_value, close_checks, close_checks_at, close_value, closed_stateid, open_named, row_to_open, file_to_open, target, target_at, claim_arguments, open_fault, claim_fault, is_share, open_limit, tree_limit, draws_past_end}
 use Rattle.nm_rules.specs.Answer.{answer_to, reply_by, reply_with, refused_value, ok_value, checks, IsLegal}
-use Rattle.nm_rules.specs.Sound.{IsSound, rises, all_apart}
+use Rattle.nm_rules.specs.Sound.{IsSound, rises, all_apart, files_rise}
+use Rattle.nm_rules.specs.declared.args.OpenArgs.{OpenArgs}
+use Rattle.nm_rules.specs.declared.args.OpenType.{OpenType}
+use Rattle.nm_rules.specs.declared.args.CloseArgs.{CloseArgs}
+use Rattle.nm_rules.specs.declared.args.SetAttrArgs.{SetAttrArgs}
+use Rattle.nm_rules.specs.declared.args.WriteArgs.{WriteArgs}
+use Rattle.nm_rules.specs.declared.results.Opened.{Opened}
 use Rattle.nm_rules.specs.declared.calls.Call.{Call}
 use Rattle.nm_rules.specs.declared.calls.Deed.{Deed}
-use Rattle.nm_rules.specs.declared.calls.Deed.TheVariants.{Open, Close}
-use Rattle.nm_rules.specs.declared.calls.OpenArgs.{OpenArgs}
-use Rattle.nm_rules.specs.declared.calls.CloseArgs.{CloseArgs}
+use Rattle.nm_rules.specs.declared.calls.Deed.TheVariants as deed
 use Rattle.nm_rules.specs.declared.calls.Owner.{Owner}
 use Rattle.nm_rules.specs.declared.calls.Verdict.{Verdict}
-use Rattle.nm_rules.specs.declared.calls.Verdict.TheVariants.{Pass, LeaseMoved}
 use Rattle.nm_rules.specs.declared.calls.Event.{Event}
 use Rattle.nm_rules.specs.declared.calls.Event.TheVariants.{Asked, Ended}
 use Rattle.nm_rules.specs.declared.calls.Reply.{Reply}
-use Rattle.nm_rules.specs.declared.calls.ReplyValue.TheVariants.{Close as CloseReply}
-use Rattle.nm_rules.specs.declared.status.OpStatus.{OpStatus}
-use Rattle.nm_rules.specs.declared.status.OpStatus.TheVariants.{Nfs4Ok, Inval, NoEnt, ShareDenied, Resource, BadStateId, OldStateId}
+use Rattle.nm_rules.specs.declared.calls.ReplyValue.TheVariants as told
+use Rattle.nm_rules.specs.declared.rows.FileRow.{FileRow}
 use Rattle.nm_rules.specs.declared.rows.OpenRow.{OpenRow}
+use Rattle.nm_rules.specs.declared.status.OpStatus.{OpStatus}
+use Rattle.nm_rules.specs.declared.status.OpStatus.TheVariants.{Nfs4Ok, ShareDenied, Resource}
+use Rattle.nm_rules.proofs.Classes.{or_none, refuse_if-none, IsFree, all_free, repeats_never}
+use Rattle.nm_rules.proofs.FileRows.{stamped_keeps, edited_keeps, files_rise-map, files_rise-filter, files_rise-push}
 use Rattle.nm_rules.proofs.OpenRows.{open_at-past, in-open_at, rises-filter, rises-put_new, rises-put_old}
 use Rattle.nm_rules.proofs.Apart.{all_apart-filter, all_apart-put, opened_suits, open_of-in, Suits}
 use Rattle.nm_rules.proofs.Looks.{look-after_words}
@@ -80,151 +94,212 @@ opened_sound last rows owner file access deny rising apart free (Some old) found
       apart = all_apart-put 0 last row rows rising apart (subst (λ (r : OpenRow). Suits r rows) (ap (λ o. opened_row o (last + 1) file owner access deny) found ∙ sym it) (opened_suits owner file (last + 1) access deny rows apart free));
     })
 
--- what stops an OPEN, from its tests
-open_stop : Verdict → Bool → Bool → Bool → Bool → Option Stop
-open_stop verdict unshared unnamed opposed past = first (record nothing_stops {
-  lease = lease_stop verdict;
-  arguments = refuse_if unshared Inval;
-  name = refuse_if unnamed NoEnt;
-  conflict = refuse_if opposed ShareDenied;
-  limit = refuse_if past Resource;
-})
-
-open_never_repeats : (v : Verdict) (a b c d : Bool) (kept : Reply) → open_stop v a b c d ≡ Some (Repeat kept) → ⊥
-unfolding open_stop
-open_never_repeats LeaseMoved a b c d kept h = cc
-open_never_repeats Pass true b c d kept h = cc
-open_never_repeats Pass false true c d kept h = cc
-open_never_repeats Pass false false true d kept h = cc
-open_never_repeats Pass false false false true kept h = cc
-open_never_repeats Pass false false false false kept h = cc
-
-open_is_free : (v : Verdict) (a b c d : Bool) → open_stop v a b c d ≡ None → (a ≡ false) × (b ≡ false) × (c ≡ false) × (d ≡ false)
-unfolding open_stop
-open_is_free LeaseMoved a b c d h = cc
-open_is_free Pass true b c d h = cc
-open_is_free Pass false true c d h = cc
-open_is_free Pass false false true d h = cc
-open_is_free Pass false false false true h = cc
-open_is_free Pass false false false false h = (refl, refl, refl, refl)
+-- ---- what nothing stops
 
 no_or : (a b : Bool) → (a || b) ≡ false → (a ≡ false) × (b ≡ false)
 no_or false b h = (refl, h)
 no_or true b h = absurd (true≢false h)
 
-pub open_goes : (s : Seen) (party : Party) (args : OpenArgs) (verdict : Verdict) → first (open_checks s (Some party) args verdict) ≡ None → GoesOpen s party args
-unfolding open_checks open_stop
-open_goes s party args verdict h =
-    let tests = open_is_free verdict (not (is_share args.access args.deny)) (finds_none s args)
-    (is_opposed (opener party args) (file_to_open s args) args.access args.deny s.opens) (draws_past_end s party args || makes_past_end s args) h in
-    let room = no_or (draws_past_end s party args) (makes_past_end s args) tests.3 in
-    record { share = not-false (is_share args.access args.deny) tests.0; named = tests.1; free = tests.2; counter = room.0; number = room.1 }
+valid_arguments : (invalid : Bool) (name : List ℕ) (asks : Asks) → arguments_fault invalid name asks ≡ None → invalid ≡ false
+unfolding arguments_fault
+valid_arguments true name asks h = cc
+valid_arguments false name asks h = refl
 
--- what stops a CLOSE of an open, from its tests
-close_stop : Verdict → Bool → Option Stop → Option Stop
-close_stop verdict foreign stale = first (record nothing_stops { unresolved = refuse_if foreign BadStateId; lease = lease_stop verdict; stale = stale })
+valid_claim : (invalid : Bool) (name : Option (List ℕ)) (asks : Asks) → claim_arguments invalid name asks ≡ None → invalid ≡ false
+unfolding claim_arguments
+valid_claim true None asks h = cc
+valid_claim false None asks h = refl
+valid_claim invalid (Some name) asks h = valid_arguments invalid name asks h
 
-abbrev IsRefusal : Option Stop → Type 0
-IsRefusal o = (kept : Reply) → o ≡ Some (Repeat kept) → ⊥
+pub open_goes : (s : Seen) (party : Party) (file : ℕ) (args : OpenArgs) (verdict : Verdict) → first (open_checks s (Some party) file args verdict) ≡ None
+    → GoesOpen s party file args
+unfolding open_checks open_fault open_limit
+open_goes s party file args verdict none =
+    let free : IsFree (open_checks s (Some party) file args verdict) = all_free _ none in
+    let limits = or_none (tree_limit s (target s file args) args.opentype) _ free.limit in
+    record {
+      share = not-false (is_share args.access args.deny) (valid_claim _ _ _ (or_none _ (claim_fault args.claim) free.arguments).0);
+      free = refuse_if-none _ ShareDenied free.conflict;
+      counter = refuse_if-none _ Resource limits.1;
+      room = limits.0;
+    }
 
-stale_refuses : (now given : ℕ) → IsRefusal (seqid_stop now given)
-stale_refuses now given kept h = by_tests (now == given) (nat_le ((now + 4294967296 - given) % 4294967296) 2147483648) h
-  where
-    by_tests : (a b : Bool) → cond a None (cond b (Some (Refuse OldStateId)) (Some (Refuse BadStateId))) ≡ Some (Repeat kept) → ⊥
-    by_tests true b e = cc
-    by_tests false true e = cc
-    by_tests false false e = cc
+-- no operation's seqid is judged yet
+by_row_no_seqid : (there : Option FileRow) (caller : Option Party) (file : ℕ) (args : CloseArgs) (verdict : Verdict) (o : Option OpenRow)
+    → (close_checks_at there caller file args verdict o).seqid ≡ None
+unfolding close_checks_at
+by_row_no_seqid there caller file args verdict None = refl
+by_row_no_seqid there caller file args verdict (Some row) = refl
 
-file_refuses : (b : Bool) (stale : Option Stop) → IsRefusal stale → IsRefusal (cond b stale (Some (Refuse BadStateId)))
-file_refuses true stale refuses kept h = refuses kept h
-file_refuses false stale refuses kept h = cc
+by_size_no_seqid : (s : Seen) (caller : Option Party) (file : ℕ) (args : SetAttrArgs) (verdict : Verdict) (b : Bool)
+    → (cond b (size_checks s caller file args verdict) (mode_checks s file args verdict)).seqid ≡ None
+unfolding size_checks mode_checks
+by_size_no_seqid s caller file args verdict true = refl
+by_size_no_seqid s caller file args verdict false = refl
 
-close_never_repeats : (v : Verdict) (a : Bool) (stale : Option Stop) (kept : Reply) → IsRefusal stale → close_stop v a stale ≡ Some (Repeat kept) → ⊥
-unfolding close_stop
-close_never_repeats v true stale kept refuses h = cc
-close_never_repeats LeaseMoved false stale kept refuses h = cc
-close_never_repeats Pass false None kept refuses h = cc
-close_never_repeats Pass false (Some stop) kept refuses h = refuses kept h
+pub no_seqid : (s : Seen) (caller : Option Party) (file : ℕ) (verdict : Verdict) (d : Deed) → (checks s caller file verdict d).seqid ≡ None
+unfolding file_checks dir_checks lookup_checks create_checks remove_checks readdir_checks read_checks write_checks setattr_checks commit_checks open_checks close_checks
+no_seqid s caller file verdict (deed.Access _) = refl
+no_seqid s caller file verdict (deed.Close args) = by_row_no_seqid _ caller file args verdict (open_named s args.stateid)
+no_seqid s caller file verdict (deed.Commit _) = refl
+no_seqid s caller file verdict (deed.Create args) = refl
+no_seqid s caller file verdict (deed.GetAttr _) = refl
+no_seqid s caller file verdict (deed.Lookup args) = refl
+no_seqid s caller file verdict deed.LookupP = refl
+no_seqid s None file verdict (deed.Open args) = refl
+no_seqid s (Some party) file verdict (deed.Open args) = refl
+no_seqid s caller file verdict (deed.Read args) = refl
+no_seqid s caller file verdict (deed.ReadDir args) = refl
+no_seqid s caller file verdict (deed.Remove args) = refl
+no_seqid s caller file verdict (deed.SetAttr args) = by_size_no_seqid s caller file args verdict (has_size args.attributes.words)
+no_seqid s caller file verdict (deed.Write args) = refl
 
-close_at_never_repeats : (caller : Option Party) (file : ℕ) (args : CloseArgs) (verdict : Verdict) (o : Option OpenRow) (kept : Reply)
-    → first (close_checks_at caller file args verdict o) ≡ Some (Repeat kept) → ⊥
-unfolding close_stop
-close_at_never_repeats caller file args verdict None kept h = cc
-close_at_never_repeats caller file args verdict (Some row) kept h =
-    close_never_repeats verdict (not (is_own caller row)) _ kept
-    (file_refuses (row.file == file) (seqid_stop row.seqid (given_seqid args.stateid)) (stale_refuses row.seqid (given_seqid args.stateid))) h
+-- so no kept reply is given
+pub never_repeats : (s : Seen) (caller : Option Party) (file : ℕ) (verdict : Verdict) (d : Deed) (kept : Reply)
+    → first (checks s caller file verdict d) ≡ Some (Repeat kept) → ⊥
+never_repeats s caller file verdict d kept repeats = repeats_never (checks s caller file verdict d) kept (no_seqid s caller file verdict d) repeats
 
--- no kept reply is given yet
-pub never_repeats : (s : Seen) (caller : Option Party) (file : ℕ) (verdict : Verdict) (deed : Deed) (kept : Reply)
-    → first (checks s caller file verdict deed) ≡ Some (Repeat kept) → ⊥
-unfolding open_checks close_checks open_stop
-never_repeats s None file verdict (Open args) kept h = cc
-never_repeats s (Some party) file verdict (Open args) kept h =
-    open_never_repeats verdict (not (is_share args.access args.deny)) (finds_none s args)
-    (is_opposed (opener party args) (file_to_open s args) args.access args.deny s.opens) (draws_past_end s party args || makes_past_end s args) kept h
-never_repeats s caller file verdict (Close args) kept h =
-    close_at_never_repeats caller file args verdict (open_named s args.stateid) kept h
+-- ---- a refusal changes nothing
 
 either_way : {A : Type 0} (b : Bool) (x : A) → cond b x x ≡ x
 either_way true x = refl
 either_way false x = refl
 
--- a refusal changes nothing
 pub words-refused : (n : Now) (call : Call) (verdict : Verdict) (status : OpStatus)
     → words n (Asked call verdict) (reply_with status (refused_value call.deed)) ≡ no_words
-unfolding words
+unfolding words set_tree is_empty
 words-refused n call verdict status = by_deed call.caller call.deed
   where
-    by_deed : (caller : Option Party) (deed : Deed) → cond (is_done status) (deed_words n caller deed (refused_value deed)) no_words ≡ no_words
-    by_deed None (Open args) = either_way (is_done status) no_words
-    by_deed (Some party) (Open args) = either_way (is_done status) no_words
-    by_deed caller (Close args) = either_way (is_done status) no_words
+    by_deed : (caller : Option Party) (d : Deed) → cond (is_done status) (deed_words n caller call.file d (refused_value d)) no_words ≡ no_words
+    by_deed caller (deed.Access _) = either_way (is_done status) no_words
+    by_deed caller (deed.Close _) = either_way (is_done status) no_words
+    by_deed caller (deed.Commit _) = either_way (is_done status) no_words
+    by_deed caller (deed.Create _) = either_way (is_done status) no_words
+    by_deed caller (deed.GetAttr _) = either_way (is_done status) no_words
+    by_deed caller (deed.Lookup _) = either_way (is_done status) no_words
+    by_deed caller deed.LookupP = either_way (is_done status) no_words
+    by_deed None (deed.Open _) = either_way (is_done status) no_words
+    by_deed (Some party) (deed.Open _) = either_way (is_done status) no_words
+    by_deed caller (deed.Read _) = either_way (is_done status) no_words
+    by_deed caller (deed.ReadDir _) = either_way (is_done status) no_words
+    by_deed caller (deed.Remove _) = either_way (is_done status) no_words
+    by_deed caller (deed.SetAttr _) = either_way (is_done status) no_words
+    by_deed caller (deed.Write _) = either_way (is_done status) no_words
+
+-- ---- each word keeps the tables sound
+
+-- what is made has the next number
+abbrev pub MakesNext : TreeWord → ℕ → Type 0
+MakesNext Untouched last = Unit {0}
+MakesNext (Made row) last = row.number ≡ last + 1
+MakesNext (Edited _ _ _) last = Unit {0}
+MakesNext (Removed _ _) last = Unit {0}
+
+pub tree_rises : (word : TreeWord) (tree : TreeNow) → MakesNext word tree.last_file → files_rise 0 tree.last_file tree.table ≡ true
+    → files_rise 0 (tree_after word tree).last_file (tree_after word tree).table ≡ true
+unfolding tree_after
+tree_rises Untouched tree next rising = rising
+tree_rises (Made row) tree next rising =
+    files_rise-push 0 tree.last_file (map (stamped (tree.change + 1) row.parent) tree.table) (record row { change = tree.change + 1 }) (files_rise-map (stamped (tree.change + 1) row.parent) (stamped_keeps (tree.change + 1) row.parent) 0 tree.last_file tree.table rising) next
+tree_rises (Edited dir number edit) tree next rising =
+    files_rise-map (edited_at (tree.change + 1) dir number edit) (edited_keeps (tree.change + 1) dir number edit) 0 tree.last_file tree.table rising
+tree_rises (Removed dir name) tree next rising =
+    files_rise-map (stamped (tree.change + 1) dir) (stamped_keeps (tree.change + 1) dir) 0 tree.last_file
+    (filter (λ row. not (is_named dir name row)) tree.table)
+    (files_rise-filter (λ row. not (is_named dir name row)) 0 tree.last_file tree.table rising)
 
 sound_same : (s : Seen) → IsSound s → IsSound (after_words s no_words)
+unfolding after_words opens_after tree_after
+sound_same s sound = record { rising = sound.rising; apart = sound.apart; numbers = sound.numbers }
+
+sound_tree : (s : Seen) (word : TreeWord) → MakesNext word s.tree.last_file → IsSound s → IsSound (after_words s (record no_words { tree = word }))
 unfolding after_words opens_after
-sound_same s sound = record { rising = sound.rising; apart = sound.apart }
+sound_tree s word next sound = record { rising = sound.rising; apart = sound.apart; numbers = tree_rises word s.tree next sound.numbers }
 
 sound_drop : (s : Seen) (word : OpenWord) (p : OpenRow → Bool) → opens_after word s.opens ≡ filter p s.opens → IsSound s
     → IsSound (after_words s (record no_words { opens = word }))
-unfolding after_words
+unfolding after_words tree_after
 sound_drop s word p filters sound = record {
   rising = rw filters (rises-filter p 0 s.last s.opens sound.rising);
   apart = rw filters (all_apart-filter p s.opens sound.apart);
+  numbers = sound.numbers;
 }
 
+-- the file that a claim names is found in what stands as in the tables
+pub claimed_is_target : (rows : List FileRow) (file : ℕ) (name : Option (List ℕ)) → claimed_in (λ dir n. child_at dir n rows) file name ≡ target_at rows file name
+unfolding target_at
+claimed_is_target rows file None = refl
+claimed_is_target rows file (Some name) = refl
+
+-- what is edited, or not, makes nothing
+edits_or_not : (b : Bool) (dir number : ℕ) (edit : FileEdit) (last : ℕ) → MakesNext (cond b (Edited dir number edit) Untouched) last
+edits_or_not true dir number edit last = tt
+edits_or_not false dir number edit last = tt
+
+edits_unless : (b : Bool) (dir number : ℕ) (edit : FileEdit) (last : ℕ) → MakesNext (cond b Untouched (Edited dir number edit)) last
+edits_unless true dir number edit last = tt
+edits_unless false dir number edit last = tt
+
+open_makes_next : (row : Option FileRow) (dir : ℕ) (name : Option (List ℕ)) (opentype : OpenType) (o : Option ℕ) (last : ℕ)
+    → MakesNext (open_tree row dir name opentype o (unwrap_or o (last + 1))) last
+unfolding open_tree
+open_makes_next row dir name opentype None last = refl
+open_makes_next row dir name opentype (Some child) last = edits_or_not (cuts opentype) (parent_of row) child (Set (Some 0) None) last
+
 -- the words of an OPEN that acted, by the row that it puts
-sound_opened : (s : Seen) (party : Party) (args : OpenArgs) → IsSound s
-    → is_opposed (opener party args) (file_to_open s args) args.access args.deny s.opens ≡ false
-    → IsSound (after_words s (opened_words (look s) party args
-    (record { stateid = stateid_of s.fs (row_to_open s party args); file = file_to_open s args })))
-unfolding after_words opens_after row_to_open look
-sound_opened s party args sound free =
+sound_opened : (s : Seen) (party : Party) (file : ℕ) (args : OpenArgs) → IsSound s
+    → is_opposed (opener party args) (file_to_open s file args) args.access args.deny s.opens ≡ false
+    → IsSound (after_words s (open_words (look s) (Some party) file args (told.Open (open_value s (Some party) file args))))
+unfolding after_words opens_after row_to_open look open_value
+sound_opened s party file args sound free =
     let owner : Owner = opener party args in
-    let file : ℕ = file_to_open s args in
-    let row : OpenRow = opened_row (open_of owner file s.opens) (s.last + 1) file owner args.access args.deny in
-    let same : put_row s.opens row.counter owner file args.access args.deny ≡ row =
-    same_row s.last s.opens owner file args.access args.deny sound.rising (open_of owner file s.opens) refl in
+    let its_file : ℕ = file_to_open s file args in
+    let row : OpenRow = opened_row (open_of owner its_file s.opens) (s.last + 1) its_file owner args.access args.deny in
+    let same : put_row s.opens row.counter owner its_file args.access args.deny ≡ row =
+    same_row s.last s.opens owner its_file args.access args.deny sound.rising (open_of owner its_file s.opens) refl in
     let stays : StaysSound (cond (is_none (open_at row.counter s.opens)) (s.last + 1) s.last) (put_open row s.opens) =
-    opened_sound s.last s.opens owner file args.access args.deny sound.rising sound.apart free (open_of owner file s.opens) refl row refl in
+    opened_sound s.last s.opens owner its_file args.access args.deny sound.rising sound.apart free (open_of owner its_file s.opens) refl row refl in
     record {
       rising = subst (λ (r : OpenRow). rises 0 (cond (is_none (open_at row.counter s.opens)) (s.last + 1) s.last) (put_open r s.opens) ≡ true) (sym same) stays.rising;
       apart = subst (λ (r : OpenRow). all_apart (put_open r s.opens) ≡ true) (sym same) stays.apart;
+      numbers = tree_rises _ s.tree
+          (rw (claimed_is_target s.tree.table file (claimed_name args.claim)) (open_makes_next _ file (claimed_name args.claim) args.opentype (target s file args) s.tree.last_file)) sound.numbers;
     }
 
-sound_closed : (s : Seen) (o : Option OpenRow) → IsSound s → IsSound (after_words s (close_words (CloseReply (closed_stateid s.fs o))))
+sound_closed : (s : Seen) (o : Option OpenRow) → IsSound s → IsSound (after_words s (close_words (told.Close (closed_stateid s.fs o))))
 unfolding opens_after
 sound_closed s None sound = sound_same s sound
 sound_closed s (Some row) sound = sound_drop s (Drop row.counter) (λ x. not (x.counter == row.counter)) refl sound
 
+set_makes_none : (row : Option FileRow) (file last : ℕ) (asks : Asks) (told_words : List ℕ) → MakesNext (set_tree row file asks told_words) last
+unfolding set_tree
+set_makes_none row file last asks told_words =
+    edits_unless (is_empty told_words) (parent_of row) file (Set (asked_size asks) (asked_mode asks)) last
+
+write_makes_none : (row : Option FileRow) (file last : ℕ) (args : WriteArgs) → MakesNext (write_tree row file args) last
+unfolding write_tree
+write_makes_none row file last args =
+    edits_unless (is_empty (taken args.«data»)) (parent_of row) file (Wrote args.offset (taken args.«data»)) last
+
 -- the words of a call that nothing stops
-pub sound_goes : (s : Seen) (caller : Option Party) (file : ℕ) (verdict : Verdict) (deed : Deed) → IsSound s
-    → first (checks s caller file verdict deed) ≡ None
-    → IsSound (after_words s (cond (is_done Nfs4Ok) (deed_words (look s) caller deed (ok_value s caller deed)) no_words))
-unfolding is_done open_checks open_value close_value
-sound_goes s None file verdict (Open args) sound goes = cc
-sound_goes s (Some party) file verdict (Open args) sound goes =
-    sound_opened s party args sound (open_goes s party args verdict goes).free
-sound_goes s caller file verdict (Close args) sound goes = sound_closed s (open_named s args.stateid) sound
+sound_goes : (s : Seen) (caller : Option Party) (file : ℕ) (verdict : Verdict) (d : Deed) → IsSound s
+    → first (checks s caller file verdict d) ≡ None
+    → IsSound (after_words s (cond (is_done Nfs4Ok) (deed_words (look s) caller file d (ok_value s caller file d)) no_words))
+unfolding is_done open_checks close_value create_value write_value
+sound_goes s caller file verdict (deed.Access _) sound goes = sound_same s sound
+sound_goes s caller file verdict (deed.Close args) sound goes = sound_closed s (open_named s args.stateid) sound
+sound_goes s caller file verdict (deed.Commit _) sound goes = sound_same s sound
+sound_goes s caller file verdict (deed.Create args) sound goes = sound_tree s (Made _) refl sound
+sound_goes s caller file verdict (deed.GetAttr _) sound goes = sound_same s sound
+sound_goes s caller file verdict (deed.Lookup _) sound goes = sound_same s sound
+sound_goes s caller file verdict deed.LookupP sound goes = sound_same s sound
+sound_goes s None file verdict (deed.Open args) sound goes = cc
+sound_goes s (Some party) file verdict (deed.Open args) sound goes = sound_opened s party file args sound (open_goes s party file args verdict goes).free
+sound_goes s caller file verdict (deed.Read _) sound goes = sound_same s sound
+sound_goes s caller file verdict (deed.ReadDir _) sound goes = sound_same s sound
+sound_goes s caller file verdict (deed.Remove args) sound goes = sound_tree s (Removed file args.name) tt sound
+sound_goes s caller file verdict (deed.SetAttr args) sound goes = sound_tree s _ (set_makes_none _ file s.tree.last_file (asks_of args.attributes) _) sound
+sound_goes s caller file verdict (deed.Write args) sound goes = sound_tree s _ (write_makes_none _ file s.tree.last_file args) sound
 
 -- an event that is answered keeps the tables sound
 pub sound-after : (s : Seen) (event : Event) → IsSound s → IsSound (after s event (answer_to s event))
@@ -241,14 +316,33 @@ sound-after s (Asked call verdict) sound =
 -- The tables of a legal list are sound.
 pub sound-seen : (fs : ℕ) (grants : Bool) (es : Past) → IsLegal fs grants es → IsSound (seen fs grants es)
 unfolding seen
-sound-seen fs grants [] legal = record { rising = refl; apart = refl }
+sound-seen fs grants [] legal = record { rising = refl; apart = refl; numbers = refl }
 sound-seen fs grants (x ∷ earlier) legal =
     rw legal.0 (sound-after (seen fs grants earlier) x.event (sound-seen fs grants earlier legal.1))
 
+look-empty : (fs : ℕ) (grants : Bool) → look (empty fs grants) ≡ nothing_yet
+unfolding look file_at child_at open_at
+look-empty fs grants = λ i. record {
+  file_by = λ k. find (λ row. row.number == k) (root_row ∷ []);
+  child_by = fun_ext (λ dir. fun_ext (λ name. no_child dir name)) i;
+  open_by = λ k. None;
+  last = 0;
+  last_file = 15;
+  change = 0;
+}
+  where
+    no_child : (dir : ℕ) (name : List ℕ) → option_map (λ (row : FileRow). row.number) (find (is_named dir name) (root_row ∷ [])) ≡ None
+    no_child dir name = by_test (1 == dir)
+      where
+        by_test : (b : Bool) → option_map (λ (row : FileRow). row.number) (cond ((b && false) && bytes_eq [] name) (Some root_row) None) ≡ None
+        by_test true = refl
+        by_test false = refl
+
 -- They show what stands.
 pub look-seen : (fs : ℕ) (grants : Bool) (es : Past) → IsLegal fs grants es → look (seen fs grants es) ≡ now es
-unfolding seen now look file_at open_at
-look-seen fs grants [] legal = refl
+unfolding seen now
+look-seen fs grants [] legal = look-empty fs grants
 look-seen fs grants (x ∷ earlier) legal =
-    look-after_words (seen fs grants earlier) (words (look (seen fs grants earlier)) x.event x.reply) (sound-seen fs grants earlier legal.1).rising
+    let sound : IsSound (seen fs grants earlier) = sound-seen fs grants earlier legal.1 in
+    look-after_words (seen fs grants earlier) (words (look (seen fs grants earlier)) x.event x.reply) sound.rising sound.numbers
     ∙ ap (λ n. left n (words n x.event x.reply)) (look-seen fs grants earlier legal.1)

@@ -1,4 +1,6 @@
 pub mod Apart
+pub mod Classes
+pub mod FileRows
 pub mod HolderLaws
 pub mod Legal
 pub mod Looks

@@ -11,14 +11,16 @@ use Rattle.nm_rules.specs.Past.{Past, Now, now, words, no_words, is_done, deed_w
 use Rattle.nm_rules.specs.Seen.{Seen, seen, look, after, after_words}
 use Rattle.nm_rules.specs.Checks.{Stop, first}
 use Rattle.nm_rules.specs.Checks.Stop.{Refuse, Repeat}
-use Rattle.nm_rules.specs.Opens.{open_checks, open_value, close_checks, close_value, closed_stateid, open_named, row_to_open, file_to_open}
+use Rattle.nm_rules.specs.Data.{write_value}
+use Rattle.nm_rules.specs.Files.{create_value}
+use Rattle.nm_rules.specs.Opens.{open_checks, open_value, close_value, closed_stateid, open_named, row_to_open, file_to_open}
 use Rattle.nm_rules.specs.Answer.{answer_to, reply_by, reply_with, refused_value, ok_value, checks, IsLegal}
 use Rattle.nm_rules.specs.Sound.{IsSound, rises, are_apart, all_apart}
 use Rattle.nm_rules.specs.Readings.{Share, row_share, share_in, share_of, ends_share, takes_share, asked_share, deed_share, joined, opens, closes, names_open_of, AreCompatible}
 use Rattle.nm_rules.specs.declared.calls.Call.{Call}
 use Rattle.nm_rules.specs.declared.calls.Deed.{Deed}
-use Rattle.nm_rules.specs.declared.calls.Deed.TheVariants.{Open, Close}
-use Rattle.nm_rules.specs.declared.calls.CloseArgs.{CloseArgs}
+use Rattle.nm_rules.specs.declared.calls.Deed.TheVariants as deed
+use Rattle.nm_rules.specs.declared.args.CloseArgs.{CloseArgs}
 use Rattle.nm_rules.specs.declared.calls.StateRef.{StateRef}
 use Rattle.nm_rules.specs.declared.calls.StateRef.TheVariants.{Zeros, Ones, Named}
 use Rattle.nm_rules.specs.declared.calls.Owner.{Owner}
@@ -26,7 +28,7 @@ use Rattle.nm_rules.specs.declared.calls.Verdict.{Verdict}
 use Rattle.nm_rules.specs.declared.calls.Event.{Event}
 use Rattle.nm_rules.specs.declared.calls.Event.TheVariants.{Asked, Ended}
 use Rattle.nm_rules.specs.declared.calls.Reply.{Reply}
-use Rattle.nm_rules.specs.declared.calls.ReplyValue.TheVariants.{Close as CloseReply}
+use Rattle.nm_rules.specs.declared.calls.ReplyValue.TheVariants as told
 use Rattle.nm_rules.specs.declared.status.OpStatus.{OpStatus}
 use Rattle.nm_rules.specs.declared.rows.OpenRow.{OpenRow}
 use Rattle.nm_rules.proofs.OwnerLemmas.{same_owner-Decides}
@@ -223,22 +225,32 @@ share-put last rows mine its_file access deny owner file rising apart free =
         ∙ ap (λ f. joined (share_in mine f rows) share) (eqb-true its_file file parts.0)
         ∙ ap (λ o. joined (share_in o file rows) share) (sym ((same_owner-Decides owner mine).0 parts.1))
 
-none_either_way : (b : Bool) → cond b false false ≡ false
-none_either_way true = refl
-none_either_way false = refl
+nothing_ends : (b : Bool) (more before : Option Share) → cond (cond b false false) None (cond (cond b false false) more before) ≡ before
+nothing_ends true more before = refl
+nothing_ends false more before = refl
 
 -- a refusal leaves every share
 refused_leaves : (n : Now) (owner : Owner) (file : ℕ) (call : Call) (verdict : Verdict) (status : OpStatus) (before : Option Share)
     → share_left n owner file (Asked call verdict) (reply_with status (refused_value call.deed)) before ≡ before
 refused_leaves n owner file call verdict status before = by_deed call.caller call.deed
   where
-    by_deed : (caller : Option Party) (deed : Deed)
-        → cond (cond (is_done status) (closes n owner file deed (refused_value deed)) false) None
-        (cond (cond (is_done status) (opens owner file caller deed (refused_value deed)) false) (joined before (deed_share deed)) before) ≡ before
-    by_deed None (Open args) = rw none_either_way refl
-    by_deed (Some party) (Open args) = rw none_either_way refl
-    by_deed None (Close args) = rw none_either_way refl
-    by_deed (Some party) (Close args) = rw none_either_way refl
+    by_deed : (caller : Option Party) (d : Deed)
+        → cond (cond (is_done status) (closes n owner file d (refused_value d)) false) None
+        (cond (cond (is_done status) (opens owner file caller d (refused_value d)) false) (joined before (deed_share d)) before) ≡ before
+    by_deed caller (deed.Access _) = nothing_ends (is_done status) _ before
+    by_deed caller (deed.Close _) = nothing_ends (is_done status) _ before
+    by_deed caller (deed.Commit _) = nothing_ends (is_done status) _ before
+    by_deed caller (deed.Create _) = nothing_ends (is_done status) _ before
+    by_deed caller (deed.GetAttr _) = nothing_ends (is_done status) _ before
+    by_deed caller (deed.Lookup _) = nothing_ends (is_done status) _ before
+    by_deed caller deed.LookupP = nothing_ends (is_done status) _ before
+    by_deed None (deed.Open _) = nothing_ends (is_done status) _ before
+    by_deed (Some party) (deed.Open _) = nothing_ends (is_done status) _ before
+    by_deed caller (deed.Read _) = nothing_ends (is_done status) _ before
+    by_deed caller (deed.ReadDir _) = nothing_ends (is_done status) _ before
+    by_deed caller (deed.Remove _) = nothing_ends (is_done status) _ before
+    by_deed caller (deed.SetAttr _) = nothing_ends (is_done status) _ before
+    by_deed caller (deed.Write _) = nothing_ends (is_done status) _ before
 
 -- the open that a stateid names is found by its counter
 pub named_is_live : (s : Seen) (id : StateRef) (row : OpenRow) → open_named s id ≡ Some row → open_at row.counter s.opens ≡ Some row
@@ -254,8 +266,8 @@ named_is_live s (Named id) row found = by_fs (id.fs == s.fs) found
 -- what a CLOSE that nothing stops leaves of a share
 closed_share : (s : Seen) (args : CloseArgs) (o : Option OpenRow) (owner : Owner) (file : ℕ) → IsSound s
     → ((row : OpenRow) → o ≡ Some row → open_at row.counter s.opens ≡ Some row)
-    → share_in owner file (opens_after (close_words (CloseReply (closed_stateid s.fs o))).opens s.opens)
-    ≡ cond (closes (look s) owner file (Close args) (CloseReply (closed_stateid s.fs o))) None (share_in owner file s.opens)
+    → share_in owner file (opens_after (close_words (told.Close (closed_stateid s.fs o))).opens s.opens)
+    ≡ cond (closes (look s) owner file (deed.Close args) (told.Close (closed_stateid s.fs o))) None (share_in owner file s.opens)
 unfolding opens_after look
 closed_share s args None owner file sound live = refl
 closed_share s args (Some row) owner file sound live =
@@ -278,22 +290,31 @@ unfolding open_of
 nothing_shared owner file = refl
 
 -- what a call that nothing stops leaves of a share
-share_goes : (s : Seen) (caller : Option Party) (its_file : ℕ) (verdict : Verdict) (deed : Deed) (owner : Owner) (file : ℕ) → IsSound s
-    → first (checks s caller its_file verdict deed) ≡ None
-    → share_in owner file (after_words s (deed_words (look s) caller deed (ok_value s caller deed))).opens
-    ≡ cond (closes (look s) owner file deed (ok_value s caller deed)) None
-    (cond (opens owner file caller deed (ok_value s caller deed)) (joined (share_in owner file s.opens) (deed_share deed)) (share_in owner file s.opens))
-unfolding after_words opens_after open_value close_value open_checks close_checks row_to_open look
-share_goes s None its_file verdict (Open args) owner file sound goes = cc
-share_goes s (Some party) its_file verdict (Open args) owner file sound goes =
+share_goes : (s : Seen) (caller : Option Party) (its_file : ℕ) (verdict : Verdict) (d : Deed) (owner : Owner) (file : ℕ) → IsSound s
+    → first (checks s caller its_file verdict d) ≡ None
+    → share_in owner file (after_words s (deed_words (look s) caller its_file d (ok_value s caller its_file d))).opens
+    ≡ cond (closes (look s) owner file d (ok_value s caller its_file d)) None
+    (cond (opens owner file caller d (ok_value s caller its_file d)) (joined (share_in owner file s.opens) (deed_share d)) (share_in owner file s.opens))
+unfolding after_words opens_after open_value close_value open_checks row_to_open look create_value write_value
+share_goes s caller its_file verdict (deed.Access _) owner file sound goes = refl
+share_goes s caller its_file verdict (deed.Close args) owner file sound goes =
+    closed_share s args (open_named s args.stateid) owner file sound (named_is_live s args.stateid)
+share_goes s caller its_file verdict (deed.Commit _) owner file sound goes = refl
+share_goes s caller its_file verdict (deed.Create args) owner file sound goes = refl
+share_goes s caller its_file verdict (deed.GetAttr _) owner file sound goes = refl
+share_goes s caller its_file verdict (deed.Lookup _) owner file sound goes = refl
+share_goes s caller its_file verdict deed.LookupP owner file sound goes = refl
+share_goes s None its_file verdict (deed.Open args) owner file sound goes = cc
+share_goes s (Some party) its_file verdict (deed.Open args) owner file sound goes =
     ap (λ r. share_in owner file (put_open r s.opens))
-    (same_row s.last s.opens (opener party args) (file_to_open s args) args.access args.deny sound.rising (open_of (opener party args) (file_to_open s args) s.opens) refl)
-    ∙ share-put s.last s.opens (opener party args) (file_to_open s args) args.access args.deny owner file sound.rising sound.apart
-    (open_goes s party args verdict goes).free
-share_goes s None its_file verdict (Close args) owner file sound goes =
-    closed_share s args (open_named s args.stateid) owner file sound (named_is_live s args.stateid)
-share_goes s (Some party) its_file verdict (Close args) owner file sound goes =
-    closed_share s args (open_named s args.stateid) owner file sound (named_is_live s args.stateid)
+    (same_row s.last s.opens (opener party args) (file_to_open s its_file args) args.access args.deny sound.rising (open_of (opener party args) (file_to_open s its_file args) s.opens) refl)
+    ∙ share-put s.last s.opens (opener party args) (file_to_open s its_file args) args.access args.deny owner file sound.rising sound.apart
+    (open_goes s party its_file args verdict goes).free
+share_goes s caller its_file verdict (deed.Read _) owner file sound goes = refl
+share_goes s caller its_file verdict (deed.ReadDir _) owner file sound goes = refl
+share_goes s caller its_file verdict (deed.Remove args) owner file sound goes = refl
+share_goes s caller its_file verdict (deed.SetAttr args) owner file sound goes = refl
+share_goes s caller its_file verdict (deed.Write args) owner file sound goes = refl
 
 -- the same, with the test that its status is OK
 done_share : (s : Seen) (call : Call) (verdict : Verdict) (owner : Owner) (file : ℕ) → IsSound s

@@ -1,16 +1,28 @@
 -- The words of actions, and the file systems that they name.
 use Rattle.std.specs.Prelude.{ℕ}
 use Rattle.nm_rules.specs.declared.action.Action.{Action}
-use Rattle.nm_rules.specs.declared.action.Action.TheVariants.{Open, Create, Close}
+use Rattle.nm_rules.specs.declared.action.Action.TheVariants as action
 use Rattle.nm_rules.specs.declared.action.Verb.{Verb}
-use Rattle.nm_rules.specs.declared.action.Verb.TheVariants.{Open as OpenWord, Create as CreateWord, Close as CloseWord}
+use Rattle.nm_rules.specs.declared.action.Verb.TheVariants as verb
 
 abbrev pub verb_of : Action → Verb
-verb_of (Open _) = OpenWord
-verb_of (Create _) = CreateWord
-verb_of (Close _) = CloseWord
+verb_of (action.Open _) = verb.Open
+verb_of (action.Create _) = verb.Create
+verb_of (action.Close _) = verb.Close
+verb_of (action.Read _) = verb.Read
+verb_of (action.Write _) = verb.Write
+verb_of (action.Size _) = verb.Size
+verb_of (action.Remove _) = verb.Remove
+verb_of (action.MkDir _) = verb.MkDir
+verb_of (action.List _) = verb.List
 
 abbrev pub fs_of : Action → ℕ
-fs_of (Open a) = a.fs
-fs_of (Create a) = a.fs
-fs_of (Close a) = a.fs
+fs_of (action.Open a) = a.fs
+fs_of (action.Create a) = a.fs
+fs_of (action.Close a) = a.fs
+fs_of (action.Read a) = a.fs
+fs_of (action.Write a) = a.fs
+fs_of (action.Size a) = a.fs
+fs_of (action.Remove a) = a.fs
+fs_of (action.MkDir a) = a.fs
+fs_of (action.List fs) = fs

@@ -1,37 +1,72 @@
 -- What the unmoving server answers: the first class of refusal that applies, read off the entries so far, else the value
 -- of the operation.
-use Rattle.std.specs.Prelude.{◌≡◌, ℕ, Bool, [], ◌∷◌, Option, Some, None}
+use Rattle.std.specs.Prelude.{◌≡◌, ℕ, Bool, [], ◌∷◌, Option, Some, None, option_map}
 use Rattle.nm_rules.specs.Parties.{Party}
 use Rattle.nm_rules.specs.Past.{Past}
 use Rattle.nm_rules.specs.Seen.{Seen, seen}
 use Rattle.nm_rules.specs.Checks.{Checks, Stop, first}
 use Rattle.nm_rules.specs.Checks.Stop.{Refuse, Repeat}
+use Rattle.nm_rules.specs.Data.{commit_checks, read_checks, read_value, write_checks, write_value, setattr_checks, setattr_value}
+use Rattle.nm_rules.specs.Files.{current, child, file_checks, dir_checks, access_value, create_checks, create_value, getattr_value, lookup_checks, readdir_checks, readdir_value, remove_checks, changed_dir}
 use Rattle.nm_rules.specs.Opens.{open_checks, open_value, close_checks, close_value}
 use Rattle.nm_rules.specs.declared.calls.Call.{Call}
 use Rattle.nm_rules.specs.declared.calls.Deed.{Deed}
-use Rattle.nm_rules.specs.declared.calls.Deed.TheVariants.{Open, Close}
+use Rattle.nm_rules.specs.declared.calls.Deed.TheVariants as deed
 use Rattle.nm_rules.specs.declared.calls.Verdict.{Verdict}
 use Rattle.nm_rules.specs.declared.calls.Event.{Event}
 use Rattle.nm_rules.specs.declared.calls.Event.TheVariants.{Asked, Ended}
 use Rattle.nm_rules.specs.declared.calls.Reply.{Reply}
 use Rattle.nm_rules.specs.declared.calls.ReplyValue.{ReplyValue}
-use Rattle.nm_rules.specs.declared.calls.ReplyValue.TheVariants.{Nothing, Open as OpenReply, Close as CloseReply}
+use Rattle.nm_rules.specs.declared.calls.ReplyValue.TheVariants as told
 use Rattle.nm_rules.specs.declared.status.OpStatus.{OpStatus}
 use Rattle.nm_rules.specs.declared.status.OpStatus.TheVariants.{Nfs4Ok}
 
 -- the classes that apply, by operation
 abbrev pub checks : Seen → Option Party → ℕ → Verdict → Deed → Checks
-checks s caller file verdict (Open args) = open_checks s caller args verdict
-checks s caller file verdict (Close args) = close_checks s caller file args verdict
+checks s caller file verdict (deed.Access _) = file_checks s file verdict
+checks s caller file verdict (deed.Close args) = close_checks s caller file args verdict
+checks s caller file verdict (deed.Commit _) = commit_checks s file verdict
+checks s caller file verdict (deed.Create args) = create_checks s file args verdict
+checks s caller file verdict (deed.GetAttr _) = file_checks s file verdict
+checks s caller file verdict (deed.Lookup args) = lookup_checks s file args verdict
+checks s caller file verdict deed.LookupP = dir_checks s file verdict
+checks s caller file verdict (deed.Open args) = open_checks s caller file args verdict
+checks s caller file verdict (deed.Read args) = read_checks s caller file args verdict
+checks s caller file verdict (deed.ReadDir args) = readdir_checks s file args verdict
+checks s caller file verdict (deed.Remove args) = remove_checks s file args verdict
+checks s caller file verdict (deed.SetAttr args) = setattr_checks s caller file args verdict
+checks s caller file verdict (deed.Write args) = write_checks s caller file args verdict
 
--- a refusal carries no value
+-- A refusal carries no value, but that SETATTR says that it set nothing.
 abbrev pub refused_value : Deed → ReplyValue
-refused_value (Open args) = OpenReply None
-refused_value (Close args) = CloseReply None
+refused_value (deed.Access _) = told.Access None
+refused_value (deed.Close _) = told.Close None
+refused_value (deed.Commit _) = told.Commit None
+refused_value (deed.Create _) = told.Create None
+refused_value (deed.GetAttr _) = told.GetAttr None
+refused_value (deed.Lookup _) = told.Lookup None
+refused_value deed.LookupP = told.LookupP None
+refused_value (deed.Open _) = told.Open None
+refused_value (deed.Read _) = told.Read None
+refused_value (deed.ReadDir _) = told.ReadDir None
+refused_value (deed.Remove _) = told.Remove None
+refused_value (deed.SetAttr _) = told.SetAttr []
+refused_value (deed.Write _) = told.Write None
 
-abbrev pub ok_value : Seen → Option Party → Deed → ReplyValue
-ok_value s caller (Open args) = OpenReply (open_value s caller args)
-ok_value s caller (Close args) = CloseReply (close_value s args)
+abbrev pub ok_value : Seen → Option Party → ℕ → Deed → ReplyValue
+ok_value s caller file (deed.Access args) = told.Access (access_value args)
+ok_value s caller file (deed.Close args) = told.Close (close_value s args)
+ok_value s caller file (deed.Commit _) = told.Commit (Some 0)
+ok_value s caller file (deed.Create args) = told.Create (create_value s file args)
+ok_value s caller file (deed.GetAttr args) = told.GetAttr (getattr_value (current s file) args)
+ok_value s caller file (deed.Lookup args) = told.Lookup (child s file args.name)
+ok_value s caller file deed.LookupP = told.LookupP (option_map (λ row. row.parent) (current s file))
+ok_value s caller file (deed.Open args) = told.Open (open_value s caller file args)
+ok_value s caller file (deed.Read args) = told.Read (read_value (current s file) args)
+ok_value s caller file (deed.ReadDir args) = told.ReadDir (readdir_value s file args)
+ok_value s caller file (deed.Remove _) = told.Remove (Some (changed_dir s file))
+ok_value s caller file (deed.SetAttr args) = told.SetAttr (setattr_value args)
+ok_value s caller file (deed.Write args) = told.Write (write_value args)
 
 abbrev pub reply_with : OpStatus → ReplyValue → Reply
 reply_with status value = record { status = status; value = value; recalls = [] }
@@ -39,12 +74,12 @@ reply_with status value = record { status = status; value = value; recalls = [] 
 abbrev pub reply_by : Seen → Call → Option Stop → Reply
 reply_by s call (Some (Refuse status)) = reply_with status (refused_value call.deed)
 reply_by s call (Some (Repeat kept)) = kept
-reply_by s call None = reply_with Nfs4Ok (ok_value s call.caller call.deed)
+reply_by s call None = reply_with Nfs4Ok (ok_value s call.caller call.file call.deed)
 
 -- the reply, read off the tables
 unfoldable pub answer_to : Seen → Event → Reply
 answer_to s (Asked call verdict) = reply_by s call (first (checks s call.caller call.file verdict call.deed))
-answer_to s (Ended party) = reply_with Nfs4Ok Nothing
+answer_to s (Ended party) = reply_with Nfs4Ok told.Nothing
 
 -- what a file system whose entries are these answers to an event
 abbrev pub answer : ℕ → Bool → Past → Event → Reply

@@ -1,6 +1,6 @@
 -- What is held, as it is shown.
 use Rattle.std.specs.Prelude.{List, map}
-use Rattle.nm_rules.specs.Files.{name_at}
+use Rattle.nm_rules.specs.Contents.{name_at}
 use Rattle.nm_rules.specs.Seen.{Seen}
 use Rattle.nm_rules.specs.declared.rows.FileRow.{FileRow}
 use Rattle.nm_rules.specs.declared.rows.OpenRow.{OpenRow}

@@ -1,9 +1,14 @@
 pub mod Actions
 pub mod Answer
+pub mod Attributes
 pub mod Checks
+pub mod Contents
+pub mod Data
 pub mod Files
 pub mod Held
 pub mod Holders
+pub mod Lists
+pub mod Names
 pub mod Opens
 pub mod Owners
 pub mod Parties

@@ -1,16 +1,26 @@
 -- The server that never moves: a file system is the list of what was asked of it, each with its reply. What stands now
 -- is read off that list.
-use Rattle.std.specs.Prelude.{ℕ, ◌+◌, Bool, true, false, List, [], ◌∷◌, Option, Some, None, is_none, if◌then◌else◌}
-use Rattle.std.specs.Str.{bytes_eq}
+use Rattle.std.specs.Prelude.{ℕ, ◌+◌, ◌==◌, Bool, true, false, List, [], ◌∷◌, Option, Some, None, is_none, option_map, replicate, unwrap_or, if◌then◌else◌}
+use Rattle.nm_rules.specs.Lists.{is_empty}
+use Rattle.nm_rules.specs.Attributes.{Asks, asks_of, asked_size, asked_mode}
+use Rattle.nm_rules.specs.Contents.{TreeWord, FileEdit, file_at, root_row, file_left, child_left, last_file_left, change_left, taken}
+use Rattle.nm_rules.specs.Contents.TreeWord.{Untouched, Made, Edited, Removed}
+use Rattle.nm_rules.specs.Contents.FileEdit.{Wrote, Set}
 use Rattle.nm_rules.specs.Parties.{Party}
 use Rattle.nm_rules.specs.Shares.{OpenWord, open_left, opened_row}
 use Rattle.nm_rules.specs.Shares.OpenWord.{Keep, Put, Drop, DropOf}
+use Rattle.nm_rules.specs.declared.args.Claim.{Claim}
+use Rattle.nm_rules.specs.declared.args.Claim.TheVariants.{Null, Previous, DelegateCur, DelegatePrev}
+use Rattle.nm_rules.specs.declared.args.CreateArgs.{CreateArgs}
+use Rattle.nm_rules.specs.declared.args.OpenArgs.{OpenArgs}
+use Rattle.nm_rules.specs.declared.args.OpenType.{OpenType}
+use Rattle.nm_rules.specs.declared.args.OpenType.TheVariants.{NoCreate, Unchecked, Guarded, Exclusive}
+use Rattle.nm_rules.specs.declared.args.RemoveArgs.{RemoveArgs}
+use Rattle.nm_rules.specs.declared.args.SetAttrArgs.{SetAttrArgs}
+use Rattle.nm_rules.specs.declared.args.WriteArgs.{WriteArgs}
 use Rattle.nm_rules.specs.declared.calls.Call.{Call}
 use Rattle.nm_rules.specs.declared.calls.Deed.{Deed}
-use Rattle.nm_rules.specs.declared.calls.Deed.TheVariants.{Open, Close}
-use Rattle.nm_rules.specs.declared.calls.OpenArgs.{OpenArgs}
-use Rattle.nm_rules.specs.declared.calls.OpenClaim.{OpenClaim}
-use Rattle.nm_rules.specs.declared.calls.OpenClaim.TheVariants.{Null}
+use Rattle.nm_rules.specs.declared.calls.Deed.TheVariants as deed
 use Rattle.nm_rules.specs.declared.calls.Owner.{Owner}
 use Rattle.nm_rules.specs.declared.calls.OwnerKind.TheVariants.{Opens}
 use Rattle.nm_rules.specs.declared.calls.Event.{Event}
@@ -18,8 +28,9 @@ use Rattle.nm_rules.specs.declared.calls.Event.TheVariants.{Asked, Ended}
 use Rattle.nm_rules.specs.declared.calls.Entry.{Entry}
 use Rattle.nm_rules.specs.declared.calls.Reply.{Reply}
 use Rattle.nm_rules.specs.declared.calls.ReplyValue.{ReplyValue}
-use Rattle.nm_rules.specs.declared.calls.ReplyValue.TheVariants.{Nothing, Open as OpenReply, Close as CloseReply}
-use Rattle.nm_rules.specs.declared.calls.Opened.{Opened}
+use Rattle.nm_rules.specs.declared.calls.ReplyValue.TheVariants as told
+use Rattle.nm_rules.specs.declared.results.Opened.{Opened}
+use Rattle.nm_rules.specs.declared.rows.FileKind.TheVariants.{File, Directory}
 use Rattle.nm_rules.specs.declared.rows.FileRow.{FileRow}
 use Rattle.nm_rules.specs.declared.rows.OpenRow.{OpenRow}
 use Rattle.nm_rules.specs.declared.status.OpStatus.{OpStatus}
@@ -30,16 +41,16 @@ use Rattle.nm_rules.specs.declared.status.OpStatus.TheVariants.{Nfs4Ok}
 abbrev pub Past : Type 0
 Past = List Entry
 
--- What stands now, by keys: a file by its name, a live open by the counter of its stateid.
+-- What stands now, by keys: a file by its number, a number by a name in a directory, a live open by the counter of its
+-- stateid.
 pub record Now : Type 0 where
-  pub file_by : List ℕ → Option ℕ
+  pub file_by : ℕ → Option FileRow
+  pub child_by : ℕ → List ℕ → Option ℕ
   pub open_by : ℕ → Option OpenRow
-  -- how many stateids and how many files were made
+  -- the last stateid's counter, the last file's number and the last change's
   pub last : ℕ
   pub last_file : ℕ
-
-abbrev pub nothing_yet : Now
-nothing_yet = record { file_by = λ _. None; open_by = λ _. None; last = 0; last_file = 15 }
+  pub change : ℕ
 
 -- What a seqid says of a call (RFC 7530, 9.1.7).
 pub data Judged : Type 0 where
@@ -66,65 +77,185 @@ acts n call r = if is_fresh (judgement n call) then is_done r.status else false
 
 -- What an entry changes, as words for each part.
 pub record Words : Type 0 where
-  pub file : Option FileRow
+  pub tree : TreeWord
   pub opens : OpenWord
   -- a stateid was made
   pub drew : Bool
 
 abbrev pub no_words : Words
-no_words = record { file = None; opens = Keep; drew = false }
+no_words = record { tree = Untouched; opens = Keep; drew = false }
 
-abbrev pub claimed_name : OpenClaim → List ℕ
-claimed_name (Null name) = name
+-- ---- OPEN and CLOSE
+
+-- The name that a claim gives. CLAIM_PREVIOUS gives none: its file is the current one.
+unfoldable pub claimed_name : Claim → Option (List ℕ)
+claimed_name (Null name) = Some name
+claimed_name (Previous _) = None
+claimed_name (DelegateCur _ name) = Some name
+claimed_name (DelegatePrev name) = Some name
+
+-- the file of that name in the directory, or the current file itself where no name is given
+abbrev pub claimed_in : (ℕ → List ℕ → Option ℕ) → ℕ → Option (List ℕ) → Option ℕ
+claimed_in child_by file None = Some file
+claimed_in child_by file (Some name) = child_by file name
+
+-- what the attributes of an OPEN ask for a file that it makes
+unfoldable pub opentype_asks : OpenType → Asks
+opentype_asks NoCreate = Asks.Sets None None
+opentype_asks (Unchecked fattr) = asks_of fattr
+opentype_asks (Guarded fattr) = asks_of fattr
+opentype_asks (Exclusive _) = Asks.Sets None None
+
+-- an EXCLUSIVE OPEN leaves its verifier with the file
+unfoldable pub exclusive_verifier : OpenType → Option ℕ
+exclusive_verifier NoCreate = None
+exclusive_verifier (Unchecked _) = None
+exclusive_verifier (Guarded _) = None
+exclusive_verifier (Exclusive verifier) = Some verifier
+
+-- A new file has mode 0644 and no bytes, unless the attributes say otherwise.
+abbrev pub new_file : ℕ → ℕ → List ℕ → OpenType → FileRow
+new_file number dir name opentype = record {
+  number = number;
+  parent = dir;
+  name = name;
+  kind = File;
+  mode = unwrap_or (asked_mode (opentype_asks opentype)) 420;
+  change = 0;
+  verifier = exclusive_verifier opentype;
+  bytes = replicate (unwrap_or (asked_size (opentype_asks opentype)) 0) 0;
+}
+
+-- An UNCHECKED OPEN with size 0 cuts a file that is there. Its other attributes, and another size, change nothing.
+abbrev pub is_zero : Option ℕ → Bool
+is_zero None = false
+is_zero (Some n) = n == 0
+
+unfoldable pub cuts : OpenType → Bool
+cuts NoCreate = false
+cuts (Unchecked fattr) = is_zero (asked_size (asks_of fattr))
+cuts (Guarded _) = false
+cuts (Exclusive _) = false
+
+abbrev pub parent_of : Option FileRow → ℕ
+parent_of None = 0
+parent_of (Some row) = row.parent
+
+-- what an OPEN that acted does to the tree, by the file that its claim names and the one that it opened
+unfoldable pub open_tree : Option FileRow → ℕ → Option (List ℕ) → OpenType → Option ℕ → ℕ → TreeWord
+open_tree row dir name opentype None number = Made (new_file number dir (unwrap_or name []) opentype)
+open_tree row dir name opentype (Some child) number =
+    if cuts opentype then Edited (parent_of row) number (Set (Some 0) None) else Untouched
 
 -- the owner that opens, where the call names a caller
 abbrev pub opener : Party → OpenArgs → Owner
 opener party args = record { instance = party; kind = Opens; text = args.owner }
 
 -- An OPEN that acted puts its owner's open, and makes the file where its name wasn't there.
-abbrev pub opened_words : Now → Party → OpenArgs → Opened → Words
-opened_words n party args opened = record {
-  file = if is_none (n.file_by (claimed_name args.claim))
-      then Some (record { number = opened.file; name = claimed_name args.claim })
-      else None;
-  opens = Put (opened_row (n.open_by opened.stateid.counter) opened.stateid.counter opened.file (opener party args) args.access args.deny);
-  drew = is_none (n.open_by opened.stateid.counter);
+abbrev pub opened_words : Now → Party → ℕ → OpenArgs → Opened → Words
+opened_words n party file args opened = record {
+  tree = open_tree (n.file_by opened.file) file (claimed_name args.claim) args.opentype
+      (claimed_in n.child_by file (claimed_name args.claim)) opened.file;
+  opens = Put (opened_row (n.open_by opened.ok.stateid.counter) opened.ok.stateid.counter opened.file (opener party args) args.access args.deny);
+  drew = is_none (n.open_by opened.ok.stateid.counter);
 }
 
-abbrev pub open_words : Now → Option Party → OpenArgs → ReplyValue → Words
-open_words n (Some party) args (OpenReply (Some opened)) = opened_words n party args opened
-open_words n (Some party) args (OpenReply None) = no_words
-open_words n (Some party) args Nothing = no_words
-open_words n (Some party) args (CloseReply _) = no_words
-open_words n None args value = no_words
+abbrev pub open_words : Now → Option Party → ℕ → OpenArgs → ReplyValue → Words
+open_words n (Some party) file args (told.Open (Some opened)) = opened_words n party file args opened
+open_words n (Some party) file args _ = no_words
+open_words n None file args value = no_words
 
 -- A CLOSE that acted drops the open whose stateid it answers.
 abbrev pub close_words : ReplyValue → Words
-close_words (CloseReply (Some id)) = record no_words { opens = Drop id.counter }
-close_words (CloseReply None) = no_words
-close_words Nothing = no_words
-close_words (OpenReply _) = no_words
+close_words (told.Close (Some id)) = record no_words { opens = Drop id.counter }
+close_words _ = no_words
 
-abbrev pub deed_words : Now → Option Party → Deed → ReplyValue → Words
-deed_words n caller (Open args) value = open_words n caller args value
-deed_words n caller (Close args) value = close_words value
+-- ---- names and data
+
+-- A new directory has mode 0755, unless the attributes say otherwise.
+abbrev pub new_directory : ℕ → ℕ → List ℕ → Asks → FileRow
+new_directory number dir name asks = record {
+  number = number;
+  parent = dir;
+  name = name;
+  kind = Directory;
+  mode = unwrap_or (asked_mode asks) 493;
+  change = 0;
+  verifier = None;
+  bytes = [];
+}
+
+-- A CREATE that acted makes the directory that it answers.
+abbrev pub create_words : ℕ → CreateArgs → ReplyValue → Words
+create_words dir args (told.Create (Some created)) =
+    record no_words { tree = Made (new_directory created.file dir args.name (asks_of args.attributes)) }
+create_words dir args _ = no_words
+
+-- A REMOVE that acted takes the name from the directory.
+abbrev pub remove_words : ℕ → RemoveArgs → ReplyValue → Words
+remove_words dir args (told.Remove (Some _)) = record no_words { tree = Removed dir args.name }
+remove_words dir args _ = no_words
+
+-- A WRITE that acted writes what it took of its bytes. One of no bytes changes nothing.
+unfoldable pub write_tree : Option FileRow → ℕ → WriteArgs → TreeWord
+write_tree row file args =
+    if is_empty (taken args.«data») then Untouched else Edited (parent_of row) file (Wrote args.offset (taken args.«data»))
+
+abbrev pub write_words : Now → ℕ → WriteArgs → ReplyValue → Words
+write_words n file args (told.Write (Some _)) = record no_words { tree = write_tree (n.file_by file) file args }
+write_words n file args _ = no_words
+
+-- A SETATTR that acted sets its size and its mode. Where it answers that it set nothing, nothing changes.
+unfoldable pub set_tree : Option FileRow → ℕ → Asks → List ℕ → TreeWord
+set_tree row file asks words =
+    if is_empty words then Untouched else Edited (parent_of row) file (Set (asked_size asks) (asked_mode asks))
+
+abbrev pub setattr_words : Now → ℕ → SetAttrArgs → ReplyValue → Words
+setattr_words n file args (told.SetAttr words) = record no_words { tree = set_tree (n.file_by file) file (asks_of args.attributes) words }
+setattr_words n file args _ = no_words
+
+-- ---- all operations
+
+abbrev pub deed_words : Now → Option Party → ℕ → Deed → ReplyValue → Words
+deed_words n caller file (deed.Access _) value = no_words
+deed_words n caller file (deed.Close args) value = close_words value
+deed_words n caller file (deed.Commit _) value = no_words
+deed_words n caller file (deed.Create args) value = create_words file args value
+deed_words n caller file (deed.GetAttr _) value = no_words
+deed_words n caller file (deed.Lookup _) value = no_words
+deed_words n caller file deed.LookupP value = no_words
+deed_words n caller file (deed.Open args) value = open_words n caller file args value
+deed_words n caller file (deed.Read _) value = no_words
+deed_words n caller file (deed.ReadDir _) value = no_words
+deed_words n caller file (deed.Remove args) value = remove_words file args value
+deed_words n caller file (deed.SetAttr args) value = setattr_words n file args value
+deed_words n caller file (deed.Write args) value = write_words n file args value
 
 -- Only an entry that acts changes anything. With its instance's end all that an owner holds goes.
 unfoldable pub words : Now → Event → Reply → Words
-words n (Asked call verdict) r = if acts n call r then deed_words n call.caller call.deed r.value else no_words
+words n (Asked call verdict) r = if acts n call r then deed_words n call.caller call.file call.deed r.value else no_words
 words n (Ended party) r = record no_words { opens = DropOf party }
 
-abbrev pub file_left : Option FileRow → (List ℕ → Option ℕ) → List ℕ → Option ℕ
-file_left None before name = before name
-file_left (Some row) before name = if is_none (before name) then (if bytes_eq row.name name then Some row.number else None) else before name
-
--- What the words leave of what stood.
+-- What the words leave of what stood. A change of the tree has the next number.
 unfoldable pub left : Now → Words → Now
 left n w = record {
-  file_by = file_left w.file n.file_by;
+  file_by = λ k. file_left w.tree (n.change + 1) k (n.file_by k);
+  child_by = λ dir name. child_left w.tree dir name (n.child_by dir name);
   open_by = λ k. open_left w.opens k (n.open_by k);
   last = if w.drew then n.last + 1 else n.last;
-  last_file = if is_none w.file then n.last_file else n.last_file + 1;
+  last_file = last_file_left w.tree n.last_file;
+  change = change_left w.tree n.change;
+}
+
+-- Before the first entry there is the root alone.
+abbrev pub nothing_yet : Now
+nothing_yet = record {
+  file_by = λ k. file_at k (root_row ∷ []);
+  child_by = λ dir name. None;
+  open_by = λ _. None;
+  last = 0;
+  last_file = 15;
+  change = 0;
 }
 
 -- What stands after a list of entries.

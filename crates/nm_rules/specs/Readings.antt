@@ -4,6 +4,7 @@ use Rattle.nm_rules.specs.Parties.{Party, same_party}
 use Rattle.nm_rules.specs.Owners.{same_owner}
 use Rattle.nm_rules.specs.Shares.{is_open_of, open_of, shares_conflict}
 use Rattle.nm_rules.specs.Past.{Past, Now, now, acts, opener}
+use Rattle.nm_rules.specs.declared.args.OpenArgs.{OpenArgs}
 use Rattle.nm_rules.specs.declared.calls.Deed.{Deed}
 use Rattle.nm_rules.specs.declared.calls.Deed.TheVariants.{Open, Close}
 use Rattle.nm_rules.specs.declared.calls.Owner.{Owner}
@@ -11,7 +12,7 @@ use Rattle.nm_rules.specs.declared.calls.Event.{Event}
 use Rattle.nm_rules.specs.declared.calls.Event.TheVariants.{Asked, Ended}
 use Rattle.nm_rules.specs.declared.calls.Reply.{Reply}
 use Rattle.nm_rules.specs.declared.calls.ReplyValue.{ReplyValue}
-use Rattle.nm_rules.specs.declared.calls.ReplyValue.TheVariants.{Nothing, Open as OpenReply, Close as CloseReply}
+use Rattle.nm_rules.specs.declared.calls.ReplyValue.TheVariants.{Open as OpenReply, Close as CloseReply}
 use Rattle.nm_rules.specs.declared.rows.OpenRow.{OpenRow}
 
 -- an access and a deny
@@ -27,19 +28,16 @@ names_open_of owner file (Some row) = is_open_of owner file row
 -- A CLOSE that acted closed the open of this owner on this file.
 abbrev pub closes : Now → Owner → ℕ → Deed → ReplyValue → Bool
 closes n owner file (Close args) (CloseReply (Some id)) = names_open_of owner file (n.open_by id.counter)
-closes n owner file (Close args) (CloseReply None) = false
-closes n owner file (Close args) Nothing = false
-closes n owner file (Close args) (OpenReply _) = false
-closes n owner file (Open args) value = false
+closes n owner file _ _ = false
 
 -- An OPEN that acted was one of this owner, and opened this file.
+abbrev pub opens_by : Owner → ℕ → Option Party → OpenArgs → ReplyValue → Bool
+opens_by owner file (Some party) args (OpenReply (Some opened)) = (opened.file == file) && same_owner owner (opener party args)
+opens_by owner file _ _ _ = false
+
 abbrev pub opens : Owner → ℕ → Option Party → Deed → ReplyValue → Bool
-opens owner file (Some party) (Open args) (OpenReply (Some opened)) = (opened.file == file) && same_owner owner (opener party args)
-opens owner file (Some party) (Open args) (OpenReply None) = false
-opens owner file (Some party) (Open args) Nothing = false
-opens owner file (Some party) (Open args) (CloseReply _) = false
-opens owner file (Some party) (Close args) value = false
-opens owner file None deed value = false
+opens owner file caller (Open args) value = opens_by owner file caller args value
+opens owner file caller _ value = false
 
 -- With this entry the owner no longer has the file open: a CLOSE of it acted, or the owner's client ended.
 abbrev pub ends_share : Now → Owner → ℕ → Event → Reply → Bool
@@ -54,7 +52,7 @@ takes_share n owner file (Asked call verdict) r = if acts n call r then opens ow
 -- what an OPEN asks for; nothing else asks for a share
 abbrev pub deed_share : Deed → Share
 deed_share (Open args) = record { access = args.access; deny = args.deny }
-deed_share (Close args) = record { access = 0; deny = 0 }
+deed_share _ = record { access = 0; deny = 0 }
 
 abbrev pub asked_share : Event → Share
 asked_share (Asked call verdict) = deed_share call.deed

@@ -1,6 +1,6 @@
 -- The tables of a file system, under the same words of change as what stands now.
 use Rattle.std.specs.Prelude.{ℕ, ◌+◌, Bool, List, [], ◌∷◌, if◌then◌else◌}
-use Rattle.nm_rules.specs.Files.{TreeNow, file_at, tree_after}
+use Rattle.nm_rules.specs.Contents.{TreeNow, empty_tree, file_at, child_at, tree_after}
 use Rattle.nm_rules.specs.Shares.{open_at, opens_after}
 use Rattle.nm_rules.specs.Past.{Past, Now, Words, words}
 use Rattle.nm_rules.specs.declared.calls.Event.{Event}
@@ -18,20 +18,22 @@ pub record Seen : Type 0 where
 
 -- Before the first entry there is no file but the root, and nothing is held.
 abbrev pub empty : ℕ → Bool → Seen
-empty fs grants = record { fs = fs; grants = grants; tree = record { table = []; last_file = 15 }; opens = []; last = 0 }
+empty fs grants = record { fs = fs; grants = grants; tree = empty_tree; opens = []; last = 0 }
 
 -- what stands, read off the tables
 unfoldable pub look : Seen → Now
 look s = record {
-  file_by = λ name. file_at name s.tree.table;
+  file_by = λ number. file_at number s.tree.table;
+  child_by = λ dir name. child_at dir name s.tree.table;
   open_by = λ counter. open_at counter s.opens;
   last = s.last;
   last_file = s.tree.last_file;
+  change = s.tree.change;
 }
 
 unfoldable pub after_words : Seen → Words → Seen
 after_words s w = record s {
-  tree = tree_after w.file s.tree;
+  tree = tree_after w.tree s.tree;
   opens = opens_after w.opens s.opens;
   last = if w.drew then s.last + 1 else s.last;
 }

@@ -4,12 +4,18 @@ use Rattle.std.specs.List.{list_all}
 use Rattle.nm_rules.specs.Owners.{same_owner}
 use Rattle.nm_rules.specs.Shares.{shares_conflict}
 use Rattle.nm_rules.specs.Seen.{Seen}
+use Rattle.nm_rules.specs.declared.rows.FileRow.{FileRow}
 use Rattle.nm_rules.specs.declared.rows.OpenRow.{OpenRow}
 
 -- the counters rise, each above this one, and none is past the last
 abbrev pub rises : ℕ → ℕ → List OpenRow → Bool
 rises above last [] = nat_le above last
 rises above last (row ∷ rows) = nat_lt above row.counter && rises row.counter last rows
+
+-- The numbers of files rise, each above this one, and none is past the last.
+abbrev pub files_rise : ℕ → ℕ → List FileRow → Bool
+files_rise above last [] = nat_le above last
+files_rise above last (row ∷ rows) = nat_lt above row.number && files_rise row.number last rows
 
 -- Two rows may stand together: of one file they have different owners, whose shares don't conflict.
 abbrev pub are_apart : OpenRow → OpenRow → Bool
@@ -26,3 +32,4 @@ all_apart (row ∷ rows) = list_all (are_apart row) rows && all_apart rows
 pub record IsSound (s : Seen) : Type 0 where
   pub rising : rises 0 s.last s.opens ≡ true
   pub apart : all_apart s.opens ≡ true
+  pub numbers : files_rise 0 s.tree.last_file s.tree.table ≡ true

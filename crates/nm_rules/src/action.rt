@@ -56,6 +56,107 @@ impl CloseAction {
     }
 }
 
+/// A read of a file that an owner has open.
+#[derive(Debug, PartialEq, Eq, Drop)]
+pub struct ReadAction {
+    pub fs: FsNum,
+    /// The file's name.
+    pub file: Bytes,
+    pub offset: u64,
+    /// In bytes, at most 65,536.
+    pub count: u32,
+    /// The owner's name.
+    pub owner: Bytes,
+}
+
+impl ReadAction {
+    /// The same read once more.
+    pub fn copy(&self) -> Result<ReadAction, Memory>
+        ensures { IfOk result (λ a. a ≡ self.now) }
+    {
+        Ok(ReadAction {
+            fs: self.fs,
+            file: self.file.copy()?,
+            offset: self.offset,
+            count: self.count,
+            owner: self.owner.copy()?,
+        })
+    }
+}
+
+/// A write to a file that an owner has open.
+#[derive(Debug, PartialEq, Eq, Drop)]
+pub struct WriteAction {
+    pub fs: FsNum,
+    /// The file's name.
+    pub file: Bytes,
+    pub offset: u64,
+    /// 1 to 1,024 bytes.
+    pub data: Bytes,
+    /// The owner's name.
+    pub owner: Bytes,
+}
+
+impl WriteAction {
+    /// The same write once more.
+    pub fn copy(&self) -> Result<WriteAction, Memory>
+        ensures { IfOk result (λ a. a ≡ self.now) }
+    {
+        Ok(WriteAction {
+            fs: self.fs,
+            file: self.file.copy()?,
+            offset: self.offset,
+            data: self.data.copy()?,
+            owner: self.owner.copy()?,
+        })
+    }
+}
+
+/// A change of the size of a file that an owner has open.
+#[derive(Debug, PartialEq, Eq, Drop)]
+pub struct SizeAction {
+    pub fs: FsNum,
+    /// The file's name.
+    pub file: Bytes,
+    /// In bytes.
+    pub size: u64,
+    /// The owner's name.
+    pub owner: Bytes,
+}
+
+impl SizeAction {
+    /// The same change once more.
+    pub fn copy(&self) -> Result<SizeAction, Memory>
+        ensures { IfOk result (λ a. a ≡ self.now) }
+    {
+        Ok(SizeAction {
+            fs: self.fs,
+            file: self.file.copy()?,
+            size: self.size,
+            owner: self.owner.copy()?,
+        })
+    }
+}
+
+/// A name in the root of a file system.
+#[derive(Debug, PartialEq, Eq, Drop)]
+pub struct NameAction {
+    pub fs: FsNum,
+    pub file: Bytes,
+}
+
+impl NameAction {
+    /// The same name once more.
+    pub fn copy(&self) -> Result<NameAction, Memory>
+        ensures { IfOk result (λ a. a ≡ self.now) }
+    {
+        Ok(NameAction {
+            fs: self.fs,
+            file: self.file.copy()?,
+        })
+    }
+}
+
 /// What a client does.
 #[derive(Debug, PartialEq, Eq, Drop)]
 pub enum Action {
@@ -65,6 +166,18 @@ pub enum Action {
     Create(OpenAction),
     /// Closes what the owner has open.
     Close(CloseAction),
+    /// Reads what the owner has open.
+    Read(ReadAction),
+    /// Writes to what the owner has open.
+    Write(WriteAction),
+    /// Sets the size of what the owner has open.
+    Size(SizeAction),
+    /// Removes a name from the root.
+    Remove(NameAction),
+    /// Makes a directory in the root.
+    MkDir(NameAction),
+    /// Lists the root.
+    List(FsNum),
 }
 
 /// The word of an action.
@@ -73,6 +186,12 @@ pub enum Verb {
     Open,
     Create,
     Close,
+    Read,
+    Write,
+    Size,
+    Remove,
+    MkDir,
+    List,
 }
 
 impl Action {
@@ -84,8 +203,15 @@ impl Action {
             Action::Open(_) => Verb::Open,
             Action::Create(_) => Verb::Create,
             Action::Close(_) => Verb::Close,
+            Action::Read(_) => Verb::Read,
+            Action::Write(_) => Verb::Write,
+            Action::Size(_) => Verb::Size,
+            Action::Remove(_) => Verb::Remove,
+            Action::MkDir(_) => Verb::MkDir,
+            Action::List(_) => Verb::List,
         }
     }
+
     /// The file system that it names.
     pub fn fs(&self) -> FsNum
         ensures { result ≡ fs_of self.now }
@@ -93,6 +219,11 @@ impl Action {
         match self {
             Action::Open(a) | Action::Create(a) => a.fs,
             Action::Close(a) => a.fs,
+            Action::Read(a) => a.fs,
+            Action::Write(a) => a.fs,
+            Action::Size(a) => a.fs,
+            Action::Remove(a) | Action::MkDir(a) => a.fs,
+            Action::List(fs) => *fs,
         }
     }
 
@@ -104,6 +235,12 @@ impl Action {
             Action::Open(a) => Action::Open(a.copy()?),
             Action::Create(a) => Action::Create(a.copy()?),
             Action::Close(a) => Action::Close(a.copy()?),
+            Action::Read(a) => Action::Read(a.copy()?),
+            Action::Write(a) => Action::Write(a.copy()?),
+            Action::Size(a) => Action::Size(a.copy()?),
+            Action::Remove(a) => Action::Remove(a.copy()?),
+            Action::MkDir(a) => Action::MkDir(a.copy()?),
+            Action::List(fs) => Action::List(*fs),
         })
     }
 }

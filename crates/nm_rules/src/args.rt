@@ -19,6 +19,15 @@ pub struct AccessArgs {
     pub access: u32,
 }
 
+/// The arguments of CLOSE (RFC 7530, 16.2).
+#[derive(Clone, Copy, Debug, PartialEq, Eq)]
+pub struct CloseArgs {
+    /// The open owner's next number.
+    pub seqid: u32,
+    /// The open that is closed.
+    pub stateid: StateRef,
+}
+
 /// The arguments of COMMIT (RFC 7530, 16.3).
 #[derive(Clone, Copy, Debug, PartialEq, Eq)]
 pub struct CommitArgs {
@@ -165,12 +174,14 @@ pub enum Claim {
     DelegatePrev(Bytes),
 }
 
-/// The arguments of OPEN (RFC 7530, 16.16) with every form of opentype and claim, without the clientid.
+/// The arguments of OPEN (RFC 7530, 16.16), without the clientid.
 #[derive(Debug, PartialEq, Eq, Drop)]
-pub struct WireOpenArgs {
+pub struct OpenArgs {
     /// The open owner's next number.
     pub seqid: u32,
+    /// What the opener will do: 1 reads, 2 writes, 3 both.
     pub access: u32,
+    /// What others may not do meanwhile: 0 nothing is denied, 1 reading, 2 writing, 3 both.
     pub deny: u32,
     /// The open owner's text, of at most 1,024 bytes.
     pub owner: Bytes,

@@ -2,7 +2,11 @@
 ghost use Rattle.std.specs.Prelude.{◌≡◌, ◌↔◌, IfOk, IsTrue};
 ghost use Rattle.nm_rules.specs.Owners.{same_owner};
 
-use crate::{Bytes, Instance, Items, Memory, OpStatus};
+use crate::{
+    AccessArgs, AccessOk, Bytes, ChangeInfo, CloseArgs, CommitArgs, CreateArgs, Created,
+    GetAttrArgs, GetAttrOk, Instance, Items, LookupArgs, Memory, OpStatus, OpenArgs, Opened,
+    ReadArgs, ReadDirArgs, ReadDirOk, ReadOk, RemoveArgs, SetAttrArgs, Words, WriteArgs, WriteOk,
+};
 
 /// What an owner owns (RFC 7530, 9.1.4): opens, or byte-range locks.
 #[derive(Clone, Copy, Debug, PartialEq, Eq)]
@@ -62,51 +66,22 @@ pub enum StateRef {
     Named(StateId),
 }
 
-/// Whether an OPEN makes the file where its name isn't there (RFC 7530, 16.16, opentype and createmode).
-#[derive(Clone, Copy, Debug, PartialEq, Eq)]
-pub enum OpenHow {
-    /// The file has to be there.
-    NoCreate,
-    /// The file is made where it isn't there, and opened as it is where it is.
-    Unchecked,
-}
-
-/// By what an OPEN names its file (RFC 7530, 16.16, claim).
-#[derive(Debug, PartialEq, Eq, Drop)]
-pub enum OpenClaim {
-    /// CLAIM_NULL: by its name in the call's directory.
-    Null(Bytes),
-}
-
-/// The arguments of OPEN (RFC 7530, 16.16), without the clientid.
-#[derive(Debug, PartialEq, Eq, Drop)]
-pub struct OpenArgs {
-    /// The open owner's next number.
-    pub seqid: u32,
-    /// What the opener will do: 1 reads, 2 writes, 3 both.
-    pub access: u32,
-    /// What others may not do meanwhile: 0 nothing is denied, 1 reading, 2 writing, 3 both.
-    pub deny: u32,
-    /// The open owner's text.
-    pub owner: Bytes,
-    pub how: OpenHow,
-    pub claim: OpenClaim,
-}
-
-/// The arguments of CLOSE (RFC 7530, 16.2).
-#[derive(Clone, Copy, Debug, PartialEq, Eq)]
-pub struct CloseArgs {
-    /// The open owner's next number.
-    pub seqid: u32,
-    /// The open that is closed.
-    pub stateid: StateRef,
-}
-
 /// An operation that reaches a file system, with its arguments.
 #[derive(Debug, PartialEq, Eq, Drop)]
 pub enum Deed {
-    Open(OpenArgs),
+    Access(AccessArgs),
     Close(CloseArgs),
+    Commit(CommitArgs),
+    Create(CreateArgs),
+    GetAttr(GetAttrArgs),
+    Lookup(LookupArgs),
+    LookupP,
+    Open(OpenArgs),
+    Read(ReadArgs),
+    ReadDir(ReadDirArgs),
+    Remove(RemoveArgs),
+    SetAttr(SetAttrArgs),
+    Write(WriteArgs),
 }
 
 /// One operation, as it reaches a file system.
@@ -114,7 +89,7 @@ pub enum Deed {
 pub struct Call {
     /// The client instance that calls. `None` where the request names none.
     pub caller: Option<Instance>,
-    /// The current file: for OPEN the directory, for CLOSE the file. The root is file 1.
+    /// The current file: for OPEN by name, CREATE, LOOKUP, READDIR and REMOVE the directory. The root is file 1.
     pub file: u64,
     pub deed: Deed,
 }
@@ -137,15 +112,6 @@ pub enum Event {
     Ended(Instance),
 }
 
-/// What an OK of OPEN tells.
-#[derive(Clone, Copy, Debug, PartialEq, Eq)]
-pub struct Opened {
-    /// The open's stateid.
-    pub stateid: StateId,
-    /// The file that is open, which becomes the current one.
-    pub file: u64,
-}
-
 /// A delegation that has to come back before an operation can go on: whose it is, its stateid and its file.
 #[derive(Clone, Copy, Debug, PartialEq)]
 pub struct Recall {
@@ -158,14 +124,29 @@ pub struct Recall {
 pub type Recalls = Items<Recall>;
 
 /// The value of a reply: that of the operation, where its status has one.
-#[derive(Clone, Copy, Debug, PartialEq, Eq)]
+#[derive(Debug, PartialEq, Drop)]
 pub enum ReplyValue {
     /// The reply to the end of an instance.
     Nothing,
-    /// That of OPEN.
-    Open(Option<Opened>),
-    /// That of CLOSE: the stateid as it was closed.
+    Access(Option<AccessOk>),
+    /// The stateid as it was closed.
     Close(Option<StateId>),
+    /// The verifier of the server's run.
+    Commit(Option<u64>),
+    Create(Option<Created>),
+    GetAttr(Option<GetAttrOk>),
+    /// The file that becomes the current one.
+    Lookup(Option<u64>),
+    /// The file that becomes the current one.
+    LookupP(Option<u64>),
+    Open(Option<Opened>),
+    Read(Option<ReadOk>),
+    ReadDir(Option<ReadDirOk>),
+    /// The change numbers of the directory.
+    Remove(Option<ChangeInfo>),
+    /// The words of a bitmap, with every status: the attributes that were set.
+    SetAttr(Words),
+    Write(Option<WriteOk>),
 }
 
 /// The answer to an event.

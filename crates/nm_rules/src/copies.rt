@@ -1,15 +1,50 @@
 //! The same call once more.
 ghost use Rattle.std.specs.Prelude.{◌≡◌, IfOk};
 
-use crate::{Call, Deed, Memory, OpenArgs, OpenClaim};
+use crate::{
+    Call, Claim, CreateArgs, CreateType, Deed, Fattr, GetAttrArgs, LookupArgs, Memory, OpenArgs,
+    OpenType, ReadDirArgs, RemoveArgs, SetAttrArgs, WriteArgs,
+};
 
-impl OpenClaim {
+impl Fattr {
+    /// The same attributes once more.
+    pub fn copy(&self) -> Result<Fattr, Memory>
+        ensures { IfOk result (λ fattr. fattr ≡ self.now) }
+    {
+        Ok(Fattr {
+            words: self.words.copy()?,
+            values: self.values.copy()?,
+        })
+    }
+}
+
+impl OpenType {
+    /// The same way of opening once more.
+    pub fn copy(&self) -> Result<OpenType, Memory>
+        ensures { IfOk result (λ opentype. opentype ≡ self.now) }
+    {
+        match self {
+            OpenType::NoCreate => Ok(OpenType::NoCreate),
+            OpenType::Unchecked(fattr) => Ok(OpenType::Unchecked(fattr.copy()?)),
+            OpenType::Guarded(fattr) => Ok(OpenType::Guarded(fattr.copy()?)),
+            OpenType::Exclusive(verifier) => Ok(OpenType::Exclusive(*verifier)),
+        }
+    }
+}
+
+impl Claim {
     /// The same claim once more.
-    pub fn copy(&self) -> Result<OpenClaim, Memory>
+    pub fn copy(&self) -> Result<Claim, Memory>
         ensures { IfOk result (λ claim. claim ≡ self.now) }
     {
         match self {
-            OpenClaim::Null(name) => Ok(OpenClaim::Null(name.copy()?)),
+            Claim::Null(name) => Ok(Claim::Null(name.copy()?)),
+            Claim::Previous(kind) => Ok(Claim::Previous(*kind)),
+            Claim::DelegateCur { stateid, name } => Ok(Claim::DelegateCur {
+                stateid: *stateid,
+                name: name.copy()?,
+            }),
+            Claim::DelegatePrev(name) => Ok(Claim::DelegatePrev(name.copy()?)),
         }
     }
 }
@@ -24,8 +59,114 @@ impl OpenArgs {
             access: self.access,
             deny: self.deny,
             owner: self.owner.copy()?,
-            how: self.how,
+            opentype: self.opentype.copy()?,
             claim: self.claim.copy()?,
+        })
+    }
+}
+
+impl CreateType {
+    /// The same type once more.
+    pub fn copy(&self) -> Result<CreateType, Memory>
+        ensures { IfOk result (λ kind. kind ≡ self.now) }
+    {
+        Ok(match self {
+            CreateType::File => CreateType::File,
+            CreateType::Directory => CreateType::Directory,
+            CreateType::Block(device) => CreateType::Block(*device),
+            CreateType::Character(device) => CreateType::Character(*device),
+            CreateType::Link(text) => CreateType::Link(text.copy()?),
+            CreateType::Socket => CreateType::Socket,
+            CreateType::Fifo => CreateType::Fifo,
+            CreateType::AttributeDirectory => CreateType::AttributeDirectory,
+            CreateType::NamedAttribute => CreateType::NamedAttribute,
+        })
+    }
+}
+
+impl CreateArgs {
+    /// The same arguments once more.
+    pub fn copy(&self) -> Result<CreateArgs, Memory>
+        ensures { IfOk result (λ args. args ≡ self.now) }
+    {
+        Ok(CreateArgs {
+            kind: self.kind.copy()?,
+            name: self.name.copy()?,
+            attributes: self.attributes.copy()?,
+        })
+    }
+}
+
+impl GetAttrArgs {
+    /// The same arguments once more.
+    pub fn copy(&self) -> Result<GetAttrArgs, Memory>
+        ensures { IfOk result (λ args. args ≡ self.now) }
+    {
+        Ok(GetAttrArgs {
+            words: self.words.copy()?,
+        })
+    }
+}
+
+impl LookupArgs {
+    /// The same arguments once more.
+    pub fn copy(&self) -> Result<LookupArgs, Memory>
+        ensures { IfOk result (λ args. args ≡ self.now) }
+    {
+        Ok(LookupArgs {
+            name: self.name.copy()?,
+        })
+    }
+}
+
+impl ReadDirArgs {
+    /// The same arguments once more.
+    pub fn copy(&self) -> Result<ReadDirArgs, Memory>
+        ensures { IfOk result (λ args. args ≡ self.now) }
+    {
+        Ok(ReadDirArgs {
+            cookie: self.cookie,
+            verifier: self.verifier,
+            dircount: self.dircount,
+            maxcount: self.maxcount,
+            words: self.words.copy()?,
+        })
+    }
+}
+
+impl RemoveArgs {
+    /// The same arguments once more.
+    pub fn copy(&self) -> Result<RemoveArgs, Memory>
+        ensures { IfOk result (λ args. args ≡ self.now) }
+    {
+        Ok(RemoveArgs {
+            name: self.name.copy()?,
+        })
+    }
+}
+
+impl SetAttrArgs {
+    /// The same arguments once more.
+    pub fn copy(&self) -> Result<SetAttrArgs, Memory>
+        ensures { IfOk result (λ args. args ≡ self.now) }
+    {
+        Ok(SetAttrArgs {
+            stateid: self.stateid,
+            attributes: self.attributes.copy()?,
+        })
+    }
+}
+
+impl WriteArgs {
+    /// The same arguments once more.
+    pub fn copy(&self) -> Result<WriteArgs, Memory>
+        ensures { IfOk result (λ args. args ≡ self.now) }
+    {
+        Ok(WriteArgs {
+            stateid: self.stateid,
+            offset: self.offset,
+            stable: self.stable,
+            data: self.data.copy()?,
         })
     }
 }
@@ -35,10 +176,21 @@ impl Deed {
     pub fn copy(&self) -> Result<Deed, Memory>
         ensures { IfOk result (λ deed. deed ≡ self.now) }
     {
-        match self {
-            Deed::Open(args) => Ok(Deed::Open(args.copy()?)),
-            Deed::Close(args) => Ok(Deed::Close(*args)),
-        }
+        Ok(match self {
+            Deed::Access(args) => Deed::Access(*args),
+            Deed::Close(args) => Deed::Close(*args),
+            Deed::Commit(args) => Deed::Commit(*args),
+            Deed::Create(args) => Deed::Create(args.copy()?),
+            Deed::GetAttr(args) => Deed::GetAttr(args.copy()?),
+            Deed::Lookup(args) => Deed::Lookup(args.copy()?),
+            Deed::LookupP => Deed::LookupP,
+            Deed::Open(args) => Deed::Open(args.copy()?),
+            Deed::Read(args) => Deed::Read(*args),
+            Deed::ReadDir(args) => Deed::ReadDir(args.copy()?),
+            Deed::Remove(args) => Deed::Remove(args.copy()?),
+            Deed::SetAttr(args) => Deed::SetAttr(args.copy()?),
+            Deed::Write(args) => Deed::Write(args.copy()?),
+        })
     }
 }
 

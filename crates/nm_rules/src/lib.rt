@@ -19,16 +19,18 @@ mod table;
 mod tests;
 mod wire;
 
-pub use action::{Action, CloseAction, OpenAction, Verb};
+pub use action::{
+    Action, CloseAction, NameAction, OpenAction, ReadAction, SizeAction, Verb, WriteAction,
+};
 pub use args::{
-    AccessArgs, Claim, CommitArgs, CreateArgs, CreateType, DelegReturnArgs, Device, Fattr,
-    GetAttrArgs, LockArgs, LockTestArgs, LockType, Locker, LookupArgs, OpenConfirmArgs,
-    OpenDowngradeArgs, OpenType, ReadArgs, ReadDirArgs, ReleaseLockOwnerArgs, RemoveArgs,
-    SetAttrArgs, Stable, UnlockArgs, WireOpenArgs, Words, WriteArgs,
+    AccessArgs, Claim, CloseArgs, CommitArgs, CreateArgs, CreateType, DelegReturnArgs, Device,
+    Fattr, GetAttrArgs, LockArgs, LockTestArgs, LockType, Locker, LookupArgs, OpenArgs,
+    OpenConfirmArgs, OpenDowngradeArgs, OpenType, ReadArgs, ReadDirArgs, ReleaseLockOwnerArgs,
+    RemoveArgs, SetAttrArgs, Stable, UnlockArgs, Words, WriteArgs,
 };
 pub use calls::{
-    Call, CloseArgs, Deed, Entry, Event, OpenArgs, OpenClaim, OpenHow, Opened, Owner, OwnerKind,
-    Recall, Recalls, Reply, ReplyValue, StateId, StateRef, Verdict,
+    Call, Deed, Entry, Event, Owner, OwnerKind, Recall, Recalls, Reply, ReplyValue, StateId,
+    StateRef, Verdict,
 };
 pub use cause::Cause;
 pub use instance::{Instance, NameFault, Principal};
@@ -40,9 +42,10 @@ pub use laws::{
 pub use memory::{Memory, Refusal};
 pub use numbers::{Epoch, Era, FsNum, MoveNum, ServerNum};
 pub use results::{
-    AccessOk, ChangeInfo, CreateOk, LockKind, OpenDelegation, OpenOk, ReadOk, WriteOk,
+    AccessOk, ChangeInfo, CreateOk, Created, DirEntry, FileAttrs, GetAttrOk, LockKind,
+    OpenDelegation, OpenOk, Opened, ReadDirOk, ReadOk, WriteOk,
 };
-pub use rows::{FileRow, OpenRow};
+pub use rows::{FileKind, FileRow, OpenRow};
 pub use status::OpStatus;
 pub use table::{HeldKind, HeldRow, HeldTable};
 pub use wire::{Handle, handles_are_read_as_written, stateids_are_read_as_written};

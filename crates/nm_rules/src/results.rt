@@ -26,6 +26,34 @@ pub struct CreateOk {
     pub attrset: Items<u32>,
 }
 
+/// What an OK of CREATE leaves: what it tells, and the directory that was made, which becomes the current file.
+#[derive(Debug, PartialEq, Eq, Drop)]
+pub struct Created {
+    pub ok: CreateOk,
+    pub file: u64,
+}
+
+/// The attributes of a file that change from file to file.
+#[derive(Clone, Copy, Debug, PartialEq, Eq)]
+pub struct FileAttrs {
+    /// Its type (RFC 7531, nfs_ftype4): 1 a regular file, 2 a directory.
+    pub kind: u32,
+    pub mode: u32,
+    /// In bytes. A directory's is 0.
+    pub size: u64,
+    /// Its change number: that of its file system at its latest change.
+    pub change: u64,
+    /// Its number.
+    pub file: u64,
+}
+
+/// What an OK of GETATTR tells (RFC 7531, GETATTR4resok): the file's attributes, and the words of the bitmap that was asked.
+#[derive(Debug, PartialEq, Eq, Drop)]
+pub struct GetAttrOk {
+    pub attributes: FileAttrs,
+    pub words: Items<u32>,
+}
+
 /// The delegation that an OPEN grants (RFC 7531, open_delegation4), by its stateid.
 #[derive(Clone, Copy, Debug, PartialEq, Eq)]
 pub enum OpenDelegation {
@@ -45,6 +73,33 @@ pub struct OpenOk {
     /// The words of a bitmap, at most 8: the attributes that were set.
     pub attrset: Items<u32>,
     pub delegation: OpenDelegation,
+}
+
+/// What an OK of OPEN leaves: what it tells, and the file that is open, which becomes the current one.
+#[derive(Debug, PartialEq, Eq, Drop)]
+pub struct Opened {
+    pub ok: OpenOk,
+    pub file: u64,
+}
+
+/// An entry of a directory (RFC 7531, entry4). Its cookie is its file's number.
+#[derive(Debug, PartialEq, Eq, Drop)]
+pub struct DirEntry {
+    pub cookie: u64,
+    pub name: Bytes,
+    /// Where an attribute was asked.
+    pub attributes: Option<FileAttrs>,
+}
+
+/// What an OK of READDIR tells (RFC 7531, READDIR4resok). The verifier of its cookies is 0.
+#[derive(Debug, PartialEq, Eq, Drop)]
+pub struct ReadDirOk {
+    /// The words of the bitmap that was asked.
+    pub words: Items<u32>,
+    /// By rising cookie.
+    pub entries: Items<DirEntry>,
+    /// Whether the directory ends with these entries.
+    pub eof: bool,
 }
 
 /// What an OK of READ tells (RFC 7531, READ4resok).

@@ -3,12 +3,49 @@ ghost use Rattle.std.specs.Prelude.{◌≡◌, IfOk};
 
 use crate::{Bytes, Memory, Owner};
 
-/// A file by its name in the root.
+/// What a row of the tree is.
+#[derive(Clone, Copy, Debug, PartialEq, Eq)]
+pub enum FileKind {
+    /// A regular file.
+    File,
+    Directory,
+}
+
+/// A file or a directory.
 #[derive(Debug, PartialEq, Eq, Drop)]
 pub struct FileRow {
-    /// Its number. The root is 1, and further files are numbered from 16.
+    /// Its number. The root is 1, and further ones are numbered from 16.
     pub number: u64,
+    /// The directory that it is in. The root is in itself.
+    pub parent: u64,
+    /// Its name there. The root's is empty.
     pub name: Bytes,
+    pub kind: FileKind,
+    pub mode: u32,
+    /// The number of its latest change.
+    pub change: u64,
+    /// The verifier of the exclusive OPEN that made it.
+    pub verifier: Option<u64>,
+    /// A directory has none.
+    pub bytes: Bytes,
+}
+
+impl FileRow {
+    /// The same row once more.
+    pub fn copy(&self) -> Result<FileRow, Memory>
+        ensures { IfOk result (λ row. row ≡ self.now) }
+    {
+        Ok(FileRow {
+            number: self.number,
+            parent: self.parent,
+            name: self.name.copy()?,
+            kind: self.kind,
+            mode: self.mode,
+            change: self.change,
+            verifier: self.verifier,
+            bytes: self.bytes.copy()?,
+        })
+    }
 }
 
 /// A live open of one owner on one file.
