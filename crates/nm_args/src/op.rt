@@ -4,16 +4,16 @@ ghost use Rattle.nm_args.specs.Operations.{number_of, code_of_number, code_of};
 
 use nm_rules::{
     AccessArgs, Bytes, CloseArgs, CommitArgs, CreateArgs, DelegReturnArgs, Fattr, GetAttrArgs,
-    Items, LockArgs, LockTestArgs, Locker, LookupArgs, OpenConfirmArgs, OpenDowngradeArgs,
-    ReadArgs, ReadDirArgs, ReleaseLockOwnerArgs, RemoveArgs, SetAttrArgs, UnlockArgs, WireOpenArgs,
-    WriteArgs,
+    Items, LockArgs, LockTestArgs, Locker, LookupArgs, OpenArgs, OpenConfirmArgs,
+    OpenDowngradeArgs, ReadArgs, ReadDirArgs, ReleaseLockOwnerArgs, RemoveArgs, SetAttrArgs,
+    UnlockArgs, WriteArgs,
 };
 
 /// OPEN's arguments, and the clientid of its owner.
 #[derive(Debug, PartialEq, Eq, Drop)]
 pub struct OwnedOpen {
     pub clientid: u64,
-    pub args: WireOpenArgs,
+    pub args: OpenArgs,
 }
 
 /// LOCK's arguments, and the clientid of its owner where it is new, else 0.

@@ -210,22 +210,22 @@ const FIELDS: [(&str, &str); 20] = [
     (
         // OPEN-exclusive-null
         "00000003746167000000000000000001000000120000000400000003000000010102030405060708000000056f776e657200000000000001000000027665726966696572000000000000000466696c65",
-        "Open(OwnedOpen { clientid: 72623859790382856, args: WireOpenArgs { seqid: 4, access: 3, deny: 1, owner: Items { items: [111, 119, 110, 101, 114] }, opentype: Exclusive(8531350866138588530), claim: Null(Items { items: [102, 105, 108, 101] }) } })",
+        "Open(OwnedOpen { clientid: 72623859790382856, args: OpenArgs { seqid: 4, access: 3, deny: 1, owner: Items { items: [111, 119, 110, 101, 114] }, opentype: Exclusive(8531350866138588530), claim: Null(Items { items: [102, 105, 108, 101] }) } })",
     ),
     (
         // OPEN-guarded-null
         "00000003746167000000000000000001000000120000000400000003000000010102030405060708000000056f776e657200000000000001000000010000000200000010000000020000000c0000000000000005000001a4000000000000000466696c65",
-        "Open(OwnedOpen { clientid: 72623859790382856, args: WireOpenArgs { seqid: 4, access: 3, deny: 1, owner: Items { items: [111, 119, 110, 101, 114] }, opentype: Guarded(Fattr { words: Items { items: [16, 2] }, values: Items { items: [0, 0, 0, 0, 0, 0, 0, 5, 0, 0, 1, 164] } }), claim: Null(Items { items: [102, 105, 108, 101] }) } })",
+        "Open(OwnedOpen { clientid: 72623859790382856, args: OpenArgs { seqid: 4, access: 3, deny: 1, owner: Items { items: [111, 119, 110, 101, 114] }, opentype: Guarded(Fattr { words: Items { items: [16, 2] }, values: Items { items: [0, 0, 0, 0, 0, 0, 0, 5, 0, 0, 1, 164] } }), claim: Null(Items { items: [102, 105, 108, 101] }) } })",
     ),
     (
         // OPEN-nocreate-previous
         "00000003746167000000000000000001000000120000000400000003000000010102030405060708000000056f776e6572000000000000000000000100000002",
-        "Open(OwnedOpen { clientid: 72623859790382856, args: WireOpenArgs { seqid: 4, access: 3, deny: 1, owner: Items { items: [111, 119, 110, 101, 114] }, opentype: NoCreate, claim: Previous(2) } })",
+        "Open(OwnedOpen { clientid: 72623859790382856, args: OpenArgs { seqid: 4, access: 3, deny: 1, owner: Items { items: [111, 119, 110, 101, 114] }, opentype: NoCreate, claim: Previous(2) } })",
     ),
     (
         // OPEN-nocreate-delegate-cur
         "00000003746167000000000000000001000000120000000400000003000000010102030405060708000000056f776e65720000000000000000000002000000070000000300000000000000090000000466696c65",
-        "Open(OwnedOpen { clientid: 72623859790382856, args: WireOpenArgs { seqid: 4, access: 3, deny: 1, owner: Items { items: [111, 119, 110, 101, 114] }, opentype: NoCreate, claim: DelegateCur { stateid: Named(StateId { seqid: 7, fs: 3, counter: 9 }), name: Items { items: [102, 105, 108, 101] } } } })",
+        "Open(OwnedOpen { clientid: 72623859790382856, args: OpenArgs { seqid: 4, access: 3, deny: 1, owner: Items { items: [111, 119, 110, 101, 114] }, opentype: NoCreate, claim: DelegateCur { stateid: Named(StateId { seqid: 7, fs: 3, counter: 9 }), name: Items { items: [102, 105, 108, 101] } } } })",
     ),
     (
         // OPEN_CONFIRM

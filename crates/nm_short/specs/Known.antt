@@ -5,18 +5,25 @@ use Rattle.nm_rules.specs.Parties.{Party}
 use Rattle.nm_rules.specs.Seqids.{advances}
 use Rattle.nm_rules.specs.Shares.{next_seqid}
 use Rattle.nm_rules.specs.declared.action.Action.{Action}
-use Rattle.nm_rules.specs.declared.action.Action.TheVariants.{Open, Create, Close}
-use Rattle.nm_rules.specs.declared.action.OpenAction.{OpenAction}
+use Rattle.nm_rules.specs.Wire.{hyper}
+use Rattle.nm_rules.specs.declared.action.Action.TheVariants as action
 use Rattle.nm_rules.specs.declared.action.CloseAction.{CloseAction}
+use Rattle.nm_rules.specs.declared.action.OpenAction.{OpenAction}
+use Rattle.nm_rules.specs.declared.action.ReadAction.{ReadAction}
+use Rattle.nm_rules.specs.declared.action.SizeAction.{SizeAction}
+use Rattle.nm_rules.specs.declared.action.WriteAction.{WriteAction}
+use Rattle.nm_rules.specs.declared.args.Claim.TheVariants.{Null}
+use Rattle.nm_rules.specs.declared.args.CreateType.TheVariants.{Directory}
+use Rattle.nm_rules.specs.declared.args.Fattr.{Fattr}
+use Rattle.nm_rules.specs.declared.args.OpenType.{OpenType}
+use Rattle.nm_rules.specs.declared.args.OpenType.TheVariants.{NoCreate, Unchecked}
+use Rattle.nm_rules.specs.declared.args.Stable.TheVariants.{FileSync}
 use Rattle.nm_rules.specs.declared.calls.Call.{Call}
-use Rattle.nm_rules.specs.declared.calls.Deed.TheVariants.{Open as OpenDeed, Close as CloseDeed}
-use Rattle.nm_rules.specs.declared.calls.OpenHow.{OpenHow}
-use Rattle.nm_rules.specs.declared.calls.OpenHow.TheVariants.{NoCreate, Unchecked}
-use Rattle.nm_rules.specs.declared.calls.OpenClaim.TheVariants.{Null}
+use Rattle.nm_rules.specs.declared.calls.Deed.TheVariants as deed
 use Rattle.nm_rules.specs.declared.calls.StateRef.TheVariants.{Named}
 use Rattle.nm_rules.specs.declared.calls.Reply.{Reply}
 use Rattle.nm_rules.specs.declared.calls.ReplyValue.{ReplyValue}
-use Rattle.nm_rules.specs.declared.calls.ReplyValue.TheVariants.{Nothing, Open as OpenReply, Close as CloseReply}
+use Rattle.nm_rules.specs.declared.calls.ReplyValue.TheVariants.{Open as OpenReply, Close as CloseReply}
 use Rattle.nm_rules.specs.declared.status.OpStatus.{OpStatus}
 use Rattle.nm_script.specs.declared.script.ClientRow.{ClientRow}
 use Rattle.nm_short.specs.declared.clients.Believed.{Believed}
@@ -67,17 +74,13 @@ others_held client fs owner file rows = filter (λ row. not (is_held_of client f
 -- An OK of OPEN tells the file's handle and the stateid; the client keeps them in the place of older ones.
 unfoldable pub holds_opened : ℕ → OpenAction → ReplyValue → List HeldOpen → List HeldOpen
 holds_opened client a (OpenReply (Some opened)) rows = others_held client a.fs a.owner a.file rows
-    ++ record { client = client; fs = a.fs; owner = a.owner; file = a.file; handle = opened.file; stateid = opened.stateid } ∷ []
-holds_opened client a (OpenReply None) rows = rows
-holds_opened client a (CloseReply id) rows = rows
-holds_opened client a Nothing rows = rows
+    ++ record { client = client; fs = a.fs; owner = a.owner; file = a.file; handle = opened.file; stateid = opened.ok.stateid } ∷ []
+holds_opened client a _ rows = rows
 
 -- With an OK of CLOSE the client holds it no longer.
 unfoldable pub holds_closed : ℕ → CloseAction → ReplyValue → List HeldOpen → List HeldOpen
 holds_closed client a (CloseReply (Some id)) rows = others_held client a.fs a.owner a.file rows
-holds_closed client a (CloseReply None) rows = rows
-holds_closed client a (OpenReply opened) rows = rows
-holds_closed client a Nothing rows = rows
+holds_closed client a _ rows = rows
 
 abbrev pub learned_open : ℕ → OpenAction → Reply → Known → Known
 learned_open client a reply known =
@@ -87,11 +90,12 @@ abbrev pub learned_close : ℕ → CloseAction → Reply → Known → Known
 learned_close client a reply known =
     record known { seqids = moved_on client a.fs a.owner reply.status known.seqids; held = holds_closed client a reply.value known.held }
 
--- what a client knows after the reply to an action
+-- What a client knows after the reply to an action. Of names and of bytes it keeps nothing.
 unfoldable pub learned : ℕ → Action → Reply → Known → Known
-learned client (Open a) reply known = learned_open client a reply known
-learned client (Create a) reply known = learned_open client a reply known
-learned client (Close a) reply known = learned_close client a reply known
+learned client (action.Open a) reply known = learned_open client a reply known
+learned client (action.Create a) reply known = learned_open client a reply known
+learned client (action.Close a) reply known = learned_close client a reply known
+learned client _ reply known = known
 
 -- ---- where clients believe a file system to be
 
@@ -129,17 +133,24 @@ party_of client row =
 unfoldable pub owner_text : ClientRow → List ℕ → List ℕ
 owner_text row owner = row.name ++ codes "/" ++ owner
 
+-- no attributes, and a size alone
+abbrev pub no_attributes : Fattr
+no_attributes = record { words = []; values = [] }
+
+abbrev pub size_alone : ℕ → Fattr
+size_alone size = record { words = 16 ∷ []; values = hyper size }
+
 -- OPEN by name in the root, which is file 1
-unfoldable pub open_call : ℕ → ClientRow → OpenAction → OpenHow → ℕ → Call
-open_call client row a how seqid = record {
+unfoldable pub open_call : ℕ → ClientRow → OpenAction → OpenType → ℕ → Call
+open_call client row a opentype seqid = record {
   caller = Some (party_of client row);
   file = 1;
-  deed = OpenDeed (record {
+  deed = deed.Open (record {
     seqid = seqid;
     access = a.access;
     deny = a.deny;
     owner = owner_text row a.owner;
-    how = how;
+    opentype = opentype;
     claim = Null a.file;
   });
 }
@@ -149,12 +160,60 @@ unfoldable pub close_call : ℕ → ClientRow → HeldOpen → ℕ → Call
 close_call client row held seqid = record {
   caller = Some (party_of client row);
   file = held.handle;
-  deed = CloseDeed (record { seqid = seqid; stateid = Named held.stateid });
+  deed = deed.Close (record { seqid = seqid; stateid = Named held.stateid });
 }
 
--- The call of an action. A CLOSE needs a stateid; without one nothing is sent.
+-- READ, WRITE and SETATTR of size, with the stateid of what the client holds
+unfoldable pub read_call : ℕ → ClientRow → ReadAction → HeldOpen → Call
+read_call client row a held = record {
+  caller = Some (party_of client row);
+  file = held.handle;
+  deed = deed.Read (record { stateid = Named held.stateid; offset = a.offset; count = a.count });
+}
+
+unfoldable pub write_call : ℕ → ClientRow → WriteAction → HeldOpen → Call
+write_call client row a held = record {
+  caller = Some (party_of client row);
+  file = held.handle;
+  deed = deed.Write (record { stateid = Named held.stateid; offset = a.offset; stable = FileSync; «data» = a.«data» });
+}
+
+unfoldable pub size_call : ℕ → ClientRow → SizeAction → HeldOpen → Call
+size_call client row a held = record {
+  caller = Some (party_of client row);
+  file = held.handle;
+  deed = deed.SetAttr (record { stateid = Named held.stateid; attributes = size_alone a.size });
+}
+
+-- REMOVE, CREATE and READDIR in the root name no client.
+unfoldable pub remove_call : List ℕ → Call
+remove_call name = record { caller = None; file = 1; deed = deed.Remove (record { name = name }) }
+
+unfoldable pub mkdir_call : List ℕ → Call
+mkdir_call name = record {
+  caller = None;
+  file = 1;
+  deed = deed.Create (record { kind = Directory; name = name; attributes = no_attributes });
+}
+
+-- the entries behind a cookie
+unfoldable pub list_call : ℕ → Call
+list_call cookie = record {
+  caller = None;
+  file = 1;
+  deed = deed.ReadDir (record { cookie = cookie; verifier = 0; dircount = 0; maxcount = 65536; words = [] });
+}
+
+-- The call of an action. CLOSE and what reads or changes a file's bytes need a stateid; without one nothing is sent.
 unfoldable pub call_of : ℕ → ClientRow → Known → Action → Option Call
-call_of client row known (Open a) = Some (open_call client row a NoCreate (seqid_of client a.fs a.owner known.seqids))
-call_of client row known (Create a) = Some (open_call client row a Unchecked (seqid_of client a.fs a.owner known.seqids))
-call_of client row known (Close a) =
+call_of client row known (action.Open a) = Some (open_call client row a NoCreate (seqid_of client a.fs a.owner known.seqids))
+call_of client row known (action.Create a) =
+    Some (open_call client row a (Unchecked no_attributes) (seqid_of client a.fs a.owner known.seqids))
+call_of client row known (action.Close a) =
     option_map (λ held. close_call client row held (seqid_of client a.fs a.owner known.seqids)) (held_of client a.fs a.owner a.file known.held)
+call_of client row known (action.Read a) = option_map (read_call client row a) (held_of client a.fs a.owner a.file known.held)
+call_of client row known (action.Write a) = option_map (write_call client row a) (held_of client a.fs a.owner a.file known.held)
+call_of client row known (action.Size a) = option_map (size_call client row a) (held_of client a.fs a.owner a.file known.held)
+call_of client row known (action.Remove a) = Some (remove_call a.file)
+call_of client row known (action.MkDir a) = Some (mkdir_call a.file)
+call_of client row known (action.List _) = Some (list_call 0)

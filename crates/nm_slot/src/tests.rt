@@ -6,8 +6,8 @@ use crate::{
     Abandon, Accept, Answer, Begin, Commit, Enter, Freeze, FsPass, Image, Install, Phase, Slot,
 };
 use nm_rules::{
-    Bytes, Call, Deed, Epoch, FsNum, Instance, Memory, MoveNum, OpStatus, OpenArgs, OpenClaim,
-    OpenHow, Principal, ServerNum, Verdict,
+    Bytes, Call, Claim, Deed, Epoch, Fattr, FsNum, Instance, Memory, MoveNum, OpStatus, OpenArgs,
+    OpenType, Principal, ServerNum, Verdict, Words,
 };
 use nm_state::FsState;
 use std::alloc::Global;
@@ -376,8 +376,11 @@ fn open(alloc: Global, caller: Instance) -> Result<Call, Fail> {
         access: 1,
         deny: 0,
         owner: Bytes::from_slice(alloc, b"o")?,
-        how: OpenHow::Unchecked,
-        claim: OpenClaim::Null(Bytes::from_slice(alloc, b"f")?),
+        opentype: OpenType::Unchecked(Fattr {
+            words: Words::new(alloc),
+            values: Bytes::new(alloc),
+        }),
+        claim: Claim::Null(Bytes::from_slice(alloc, b"f")?),
     };
     Ok(Call {
         caller: Some(caller),
