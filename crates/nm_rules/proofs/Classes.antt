@@ -1,8 +1,8 @@
 -- The classes of refusal: what nothing stops, no class stops.
-use Rattle.std.proofs.Common.{◌≡◌, Bool, true, false, cond, Option, Some, None, refl}
+use Rattle.std.proofs.Common.{◌≡◌, Bool, true, false, Option, Some, None, refl}
 use Rattle.std.specs.Option.{option_or}
 use Rattle.nm_rules.specs.Checks.{Checks, Stop, first, refusal, behind_seqid, refuse_if}
-use Rattle.nm_rules.specs.Checks.Stop.{Refuse, Repeat}
+use Rattle.nm_rules.specs.Checks.Stop.{Repeat}
 use Rattle.nm_rules.specs.declared.calls.Reply.{Reply}
 use Rattle.nm_rules.specs.declared.status.OpStatus.{OpStatus}
 

@@ -1,11 +1,11 @@
 -- Look-ups in the table of files after it changed.
 use Rattle.std.proofs.Common.{◌≡◌, ℕ, ◌+◌, Bool, true, false, cond, List, [], ◌∷◌, ◌++◌, Option, Some, None, refl, ap, sym, ◌∙◌, arith, eqb-true}
-use Rattle.std.specs.Prelude.{find, option_map, map, filter, not, ◌&&◌, ◌==◌, ◌<◌, ◌≤◌, nat_lt, nat_le}
+use Rattle.std.specs.Prelude.{find, option_map, map, filter, not, ◌&&◌, ◌==◌, ◌<◌, ◌≤◌}
 use Rattle.std.specs.Str.{bytes_eq}
 use Rattle.std.proofs.lemmas.Bool.{false≢true, true≢false}
 use Rattle.std.proofs.lemmas.Bool.Decides.{nat_tests}
 use Rattle.std.proofs.lemmas.Slice.Eq.{bytes_eq-Decides}
-use Rattle.nm_rules.specs.Contents.{file_at, child_at, is_named, is_entry_of, stamped, edited_at, edited, FileEdit}
+use Rattle.nm_rules.specs.Contents.{file_at, child_at, is_named, stamped, edited_at, edited, FileEdit}
 use Rattle.nm_rules.specs.Contents.FileEdit.{Wrote, Set}
 use Rattle.nm_rules.specs.Sound.{files_rise}
 use Rattle.nm_rules.proofs.OpenRows.{and_parts}

@@ -12,13 +12,13 @@ use Rattle.nm_rules.specs.Contents.TreeWord.{Untouched, Made, Edited, Removed}
 use Rattle.nm_rules.specs.Contents.FileEdit.{Wrote, Set}
 use Rattle.nm_rules.specs.Shares.{open_at, open_of, opened_row, is_opposed, put_open, opens_after, OpenWord}
 use Rattle.nm_rules.specs.Shares.OpenWord.{Drop, DropOf}
-use Rattle.nm_rules.specs.Past.{Past, Now, now, left, words, no_words, is_done, deed_words, nothing_yet, open_words, opened_words, close_words, create_words, opener, open_tree, claimed_in, claimed_name, cuts, parent_of, set_tree, write_tree}
+use Rattle.nm_rules.specs.Past.{Past, Now, now, left, words, no_words, is_done, deed_words, nothing_yet, open_words, close_words, opener, open_tree, claimed_in, claimed_name, cuts, parent_of, set_tree, write_tree}
 use Rattle.nm_rules.specs.Seen.{Seen, empty, seen, look, after, after_words}
-use Rattle.nm_rules.specs.Checks.{Checks, Stop, first, arguments_fault}
+use Rattle.nm_rules.specs.Checks.{Stop, first, arguments_fault}
 use Rattle.nm_rules.specs.Checks.Stop.{Refuse, Repeat}
 use Rattle.nm_rules.specs.Data.{read_checks, write_checks, write_value, setattr_checks, size_checks, mode_checks, commit_checks}
 use Rattle.nm_rules.specs.Files.{file_checks, dir_checks, lookup_checks, create_checks, create_value, remove_checks, readdir_checks}
-use Rattle.nm_rules.specs.Opens.{open_checks, GoesOpen, open_value, close_checks, close_checks_at, close_value, closed_stateid, open_named, row_to_open, file_to_open, target, target_at, claim_arguments, open_fault, claim_fault, is_share, open_limit, tree_limit, draws_past_end}
+use Rattle.nm_rules.specs.Opens.{open_checks, GoesOpen, open_value, close_checks, close_checks_at, close_value, closed_stateid, open_named, row_to_open, file_to_open, target, target_at, claim_arguments, open_fault, claim_fault, is_share, open_limit, tree_limit}
 use Rattle.nm_rules.specs.Answer.{answer_to, reply_by, reply_with, refused_value, ok_value, checks, IsLegal}
 use Rattle.nm_rules.specs.Sound.{IsSound, rises, all_apart, files_rise}
 use Rattle.nm_rules.specs.declared.args.OpenArgs.{OpenArgs}
@@ -26,7 +26,6 @@ use Rattle.nm_rules.specs.declared.args.OpenType.{OpenType}
 use Rattle.nm_rules.specs.declared.args.CloseArgs.{CloseArgs}
 use Rattle.nm_rules.specs.declared.args.SetAttrArgs.{SetAttrArgs}
 use Rattle.nm_rules.specs.declared.args.WriteArgs.{WriteArgs}
-use Rattle.nm_rules.specs.declared.results.Opened.{Opened}
 use Rattle.nm_rules.specs.declared.calls.Call.{Call}
 use Rattle.nm_rules.specs.declared.calls.Deed.{Deed}
 use Rattle.nm_rules.specs.declared.calls.Deed.TheVariants as deed

@@ -1,9 +1,8 @@
 -- The tables after words of change show what those words leave of what stood.
-use Rattle.std.proofs.Common.{◌≡◌, ℕ, ◌+◌, Bool, true, false, cond, List, [], ◌∷◌, ◌++◌, Option, Some, None, refl, ap, sym, ◌∙◌}
-use Rattle.std.specs.Prelude.{is_none, find, option_map, map, filter, not, ◌&&◌, ◌==◌}
-use Rattle.std.specs.Str.{bytes_eq}
+use Rattle.std.proofs.Common.{◌≡◌, ℕ, ◌+◌, Bool, true, false, cond, List, [], ◌∷◌, ◌++◌, Option, Some, None, refl, ap, ◌∙◌}
+use Rattle.std.specs.Prelude.{option_map, map, filter, not}
 use mathlib.Core.Path.{fun_ext}
-use Rattle.nm_rules.specs.Contents.{TreeNow, TreeWord, file_at, child_at, is_named, is_entry_of, stamped, edited_at, edited, tree_after, file_left, child_left, last_file_left, change_left, FileEdit}
+use Rattle.nm_rules.specs.Contents.{TreeNow, TreeWord, file_at, child_at, is_named, stamped, edited_at, tree_after, file_left, child_left, last_file_left, change_left}
 use Rattle.nm_rules.specs.Contents.TreeWord.{Untouched, Made, Edited, Removed}
 use Rattle.nm_rules.specs.Shares.{open_at, opens_after, open_left, OpenWord}
 use Rattle.nm_rules.specs.Shares.OpenWord.{Keep, Put, Drop, DropOf}
@@ -15,7 +14,7 @@ use Rattle.nm_rules.specs.declared.rows.OpenRow.{OpenRow}
 use Rattle.nm_rules.proofs.OpenRows.{open_at-put, open_at-drop, open_at-drop_of}
 use Rattle.nm_rules.proofs.FileRows.{file_at-map, file_at-push, file_at-removed, child_at-map, child_at-push, made_child, child_at-removed, stamped_keeps, edited_keeps, kept_by}
 
-file_by-after : (word : TreeWord) (tree : TreeNow) (k : ℕ) → files_rise 0 tree.last_file tree.table ≡ true
+pub file_by-after : (word : TreeWord) (tree : TreeNow) (k : ℕ) → files_rise 0 tree.last_file tree.table ≡ true
     → file_at k (tree_after word tree).table ≡ file_left word (tree.change + 1) k (file_at k tree.table)
 unfolding tree_after file_left
 file_by-after Untouched tree k rising = refl

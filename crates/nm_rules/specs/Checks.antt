@@ -10,7 +10,7 @@ use Rattle.nm_rules.specs.declared.calls.Verdict.{Verdict}
 use Rattle.nm_rules.specs.declared.calls.Verdict.TheVariants.{Pass, LeaseMoved}
 use Rattle.nm_rules.specs.declared.rows.FileRow.{FileRow}
 use Rattle.nm_rules.specs.declared.status.OpStatus.{OpStatus}
-use Rattle.nm_rules.specs.declared.status.OpStatus.TheVariants.{Stale, NotDir, IsDir, Inval, AttrNotSupp, LeaseMoved as LeaseMovedStatus}
+use Rattle.nm_rules.specs.declared.status.OpStatus.TheVariants.{Stale, Inval, AttrNotSupp, LeaseMoved as LeaseMovedStatus}
 
 -- Why a call isn't carried out.
 pub data Stop : Type 0 where

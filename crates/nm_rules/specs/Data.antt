@@ -1,7 +1,6 @@
 -- Operations on the bytes, the size and the mode of a file (RFC 7530, 16.3, 16.23, 16.32 and 16.36): when each is refused,
 -- and what its OK tells.
-use Rattle.std.specs.Prelude.{◌≡◌, ◌==◌, ◌&&◌, ◌||◌, not, nat_le, nat_lt, ℕ, ◌+◌, ◌-◌, max, min, Bool, true, false, List, [], ◌∷◌, length, Option, Some, None, is_none, if◌then◌else◌}
-use Rattle.std.specs.List.{list_any}
+use Rattle.std.specs.Prelude.{◌&&◌, not, nat_le, nat_lt, ℕ, ◌+◌, max, min, Bool, false, List, length, Option, Some, None, is_none, if◌then◌else◌}
 use Rattle.std.specs.Option.{option_or}
 use Rattle.nm_rules.specs.Lists.{is_empty}
 use Rattle.nm_rules.specs.Attributes.{Asks, asks_of, asked_size, asked_mode, has_size, is_invalid, is_unsupported, sets_any, set_words}

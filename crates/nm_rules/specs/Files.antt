@@ -1,11 +1,11 @@
 -- Operations on names and on attributes that are asked (RFC 7530, 16.1, 16.4, 16.7, 16.13, 16.14, 16.24 and 16.26): when
 -- each is refused, and what its OK tells.
-use Rattle.std.specs.Prelude.{◌==◌, ◌&&◌, ◌||◌, ◌^◌, not, nat_le, nat_lt, ℕ, ◌+◌, ◌-◌, ◌*◌, ◌%◌, Bool, true, false, List, [], ◌∷◌, length, filter, map, Option, Some, None, unwrap_or, option_map, is_none, bit_and, if◌then◌else◌}
+use Rattle.std.specs.Prelude.{◌==◌, ◌&&◌, ◌||◌, ◌^◌, not, nat_le, nat_lt, ℕ, ◌+◌, ◌-◌, ◌%◌, Bool, true, false, List, [], ◌∷◌, length, filter, map, Option, Some, None, is_none, bit_and, if◌then◌else◌}
 use Rattle.std.specs.List.{list_any}
 use Rattle.std.specs.Option.{option_or}
 use Rattle.nm_rules.specs.Lists.{is_empty}
 use Rattle.nm_rules.specs.Attributes.{Asks, asks_of, asked_size, asked_mode, set_words}
-use Rattle.nm_rules.specs.Checks.{Checks, nothing_stops, refuse_if, lease_stop, missing_stop, is_dir, is_no_dir, arguments_fault, name_stop}
+use Rattle.nm_rules.specs.Checks.{Checks, nothing_stops, refuse_if, lease_stop, missing_stop, is_no_dir, arguments_fault, name_stop}
 use Rattle.nm_rules.specs.Contents.{files_limit, size_limit, total_limit, file_at, child_at, is_directory, is_entry_of, total_size}
 use Rattle.nm_rules.specs.Seen.{Seen}
 use Rattle.nm_rules.specs.declared.args.AccessArgs.{AccessArgs}
@@ -27,7 +27,7 @@ use Rattle.nm_rules.specs.declared.results.ReadDirOk.{ReadDirOk}
 use Rattle.nm_rules.specs.declared.rows.FileRow.{FileRow}
 use Rattle.nm_rules.specs.declared.rows.OpenRow.{OpenRow}
 use Rattle.nm_rules.specs.declared.status.OpStatus.{OpStatus}
-use Rattle.nm_rules.specs.declared.status.OpStatus.TheVariants.{NotDir, IsDir, NoEnt, Exist, Inval, NotSupp, BadType, NotSame, NotEmpty, FileOpen, FBig, NoSpc, Resource, TooSmall}
+use Rattle.nm_rules.specs.declared.status.OpStatus.TheVariants.{NotDir, NoEnt, Exist, NotSupp, BadType, NotSame, NotEmpty, FileOpen, FBig, NoSpc, Resource, TooSmall}
 
 -- ---- what they share
 

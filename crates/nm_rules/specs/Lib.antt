@@ -4,6 +4,7 @@ pub mod Attributes
 pub mod Checks
 pub mod Contents
 pub mod Data
+pub mod FileReadings
 pub mod Files
 pub mod Held
 pub mod Holders

@@ -2,7 +2,6 @@
 use Rattle.std.specs.Prelude.{◌==◌, ◌||◌, ℕ, Bool, List, [], ◌∷◌, Option, Some, None, nat_lt, length, if◌then◌else◌}
 use Rattle.std.specs.List.{list_any}
 use Rattle.std.specs.Str.{bytes_eq}
-use Rattle.nm_rules.specs.Lists.{is_empty}
 use Rattle.nm_rules.specs.declared.status.OpStatus.{OpStatus}
 use Rattle.nm_rules.specs.declared.status.OpStatus.TheVariants.{NameTooLong, BadName}
 

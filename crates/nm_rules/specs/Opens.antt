@@ -1,5 +1,5 @@
 -- OPEN and CLOSE (RFC 7530, 16.16 and 16.2): when each is refused, and what its OK tells.
-use Rattle.std.specs.Prelude.{◌≡◌, ◌==◌, ◌&&◌, ◌||◌, ◌^◌, not, nat_le, ℕ, ◌+◌, ◌-◌, ◌%◌, Bool, true, false, List, [], ◌∷◌, Option, Some, None, unwrap_or, is_none, if◌then◌else◌}
+use Rattle.std.specs.Prelude.{◌≡◌, ◌==◌, ◌&&◌, ◌||◌, ◌^◌, not, nat_le, ℕ, ◌+◌, ◌-◌, ◌%◌, Bool, true, false, List, [], Option, Some, None, unwrap_or, is_none, if◌then◌else◌}
 use Rattle.std.specs.List.{list_any}
 use Rattle.std.specs.Option.{option_or}
 use Rattle.nm_rules.specs.Parties.{Party, same_party}

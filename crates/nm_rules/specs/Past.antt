@@ -1,9 +1,9 @@
 -- The server that never moves: a file system is the list of what was asked of it, each with its reply. What stands now
 -- is read off that list.
-use Rattle.std.specs.Prelude.{ℕ, ◌+◌, ◌==◌, Bool, true, false, List, [], ◌∷◌, Option, Some, None, is_none, option_map, replicate, unwrap_or, if◌then◌else◌}
+use Rattle.std.specs.Prelude.{ℕ, ◌+◌, ◌==◌, Bool, true, false, List, [], ◌∷◌, Option, Some, None, is_none, replicate, unwrap_or, if◌then◌else◌}
 use Rattle.nm_rules.specs.Lists.{is_empty}
 use Rattle.nm_rules.specs.Attributes.{Asks, asks_of, asked_size, asked_mode}
-use Rattle.nm_rules.specs.Contents.{TreeWord, FileEdit, file_at, root_row, file_left, child_left, last_file_left, change_left, taken}
+use Rattle.nm_rules.specs.Contents.{TreeWord, file_at, root_row, file_left, child_left, last_file_left, change_left, taken}
 use Rattle.nm_rules.specs.Contents.TreeWord.{Untouched, Made, Edited, Removed}
 use Rattle.nm_rules.specs.Contents.FileEdit.{Wrote, Set}
 use Rattle.nm_rules.specs.Parties.{Party}

@@ -1,6 +1,9 @@
 //! Laws of legal lists: each is the contract of a function that does nothing. They are over the definitions alone, and
 //! the contracts of the crates above bind the code to the same definitions.
-ghost use Rattle.std.specs.Prelude.{◌≡◌, ◌≢◌, ◌≤◌, ◌+◌, ℕ, Bool, true, length};
+ghost use Rattle.std.specs.Prelude.{◌≡◌, ◌≢◌, ◌≤◌, ◌+◌, ℕ, Bool, true, Some, length};
+ghost use Rattle.nm_rules.specs.Contents.{file_at};
+ghost use Rattle.nm_rules.specs.FileReadings.{IsRead};
+ghost use Rattle.nm_rules.specs.declared.rows.FileRow.{FileRow as AnyRow};
 ghost use Rattle.nm_rules.specs.Past.{Past, now};
 ghost use Rattle.nm_rules.specs.Seen.{Seen, seen, look, after};
 ghost use Rattle.nm_rules.specs.Answer.{IsLegal};
@@ -46,4 +49,11 @@ pub fn holders_have_rows()
 pub fn rows_grow_by_one()
     ensures fit { (s : Seen) → length (holders s) ≤ length s.opens }
     ensures grow { (s : Seen) (event : AnyEvent) (reply : AnyReply) → length (after s event reply).opens ≤ length s.opens + 1 }
+{}
+
+/// The tree says of each file what the entries say: its bytes are those of the latest WRITEs that cover them since it was
+/// made or cut, its size and its mode those of the latest SETATTR or WRITE, and its name and directory those of its making.
+pub fn files_read_as_written()
+    ensures { (fs : ℕ) (grants : Bool) (es : Past) → IsLegal fs grants es
+        → (file : ℕ) (row : AnyRow) → file_at file (seen fs grants es).tree.table ≡ Some row → IsRead es row }
 {}

@@ -36,8 +36,8 @@ pub use cause::Cause;
 pub use instance::{Instance, NameFault, Principal};
 pub use items::{Bytes, Items};
 pub use laws::{
-    holders_have_rows, legal_tables_are_sound, rows_grow_by_one, shares_never_conflict,
-    tables_keep_shares, tables_show_what_stands,
+    files_read_as_written, holders_have_rows, legal_tables_are_sound, rows_grow_by_one,
+    shares_never_conflict, tables_keep_shares, tables_show_what_stands,
 };
 pub use memory::{Memory, Refusal};
 pub use numbers::{Epoch, Era, FsNum, MoveNum, ServerNum};
