@@ -55,9 +55,9 @@ fn what_another_codec_encodes_is_read_and_written_so(rt: HostRuntime) -> Result<
 }
 
 #[test]
-fn the_worked_words_end_as_they_should(rt: HostRuntime) -> Result<(), Fail> {
+fn compounds_end_as_they_should(rt: HostRuntime) -> Result<(), Fail> {
     let alloc = rt.alloc();
-    let cases: [(&str, Result<(usize, CompoundEnd), ArgsFault>); 9] = [
+    let cases: [(&str, Result<(usize, CompoundEnd), ArgsFault>); 12] = [
         (
             "00000000000000000000000100000018",
             Ok((1, CompoundEnd::Clean)),
@@ -87,6 +87,20 @@ fn the_worked_words_end_as_they_should(rt: HostRuntime) -> Result<(), Fail> {
         (
             "000000000000000000000041",
             Ok((0, CompoundEnd::TooMany { count: 65 })),
+        ),
+        // the first number behind those of operations
+        (
+            "00000000000000000000000100000028",
+            Ok((0, CompoundEnd::Illegal { number: 40 })),
+        ),
+        // CREATE of the last two types of objects, whose name and attributes are empty
+        (
+            "0000000000000000000000010000000600000008000000000000000000000000",
+            Ok((1, CompoundEnd::Clean)),
+        ),
+        (
+            "0000000000000000000000010000000600000009000000000000000000000000",
+            Ok((1, CompoundEnd::Clean)),
         ),
     ];
     for (digits, want) in cases {

@@ -692,12 +692,13 @@ fn a_word_of_ones_is_told_or_is_another_value(rt: HostRuntime) -> Result<(), Fai
 }
 
 #[test]
-fn a_limit_of_blocks_is_outside(rt: HostRuntime) -> Result<(), Fail> {
+fn numbers_outside_their_range_are_told(rt: HostRuntime) -> Result<(), Fail> {
     let alloc = rt.alloc();
-    for number in [0, 2, 3] {
+    // whether the change is atomic, the kind of delegation, whether it is recalled, and its limit, which isn't one of blocks
+    for (place, number) in [(40, 2), (76, 3), (96, 2), (100, 0), (100, 2), (100, 3)] {
         let mut bytes = whole(alloc, OpStatus::Nfs4Ok, 1, &OPEN_WRITE)?;
-        *bytes.get_mut(103).ok_or("a limit")? = number;
-        assert_eq!(rt; fault(alloc, &bytes), at(100), "limit {number}");
+        *bytes.get_mut(place + 3).ok_or("a word")? = number;
+        assert_eq!(rt; fault(alloc, &bytes), at(place), "{number} at {place}");
     }
     Ok(())
 }
