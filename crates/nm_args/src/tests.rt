@@ -55,9 +55,9 @@ fn what_another_codec_encodes_is_read_and_written_so(rt: HostRuntime) -> Result<
 }
 
 #[test]
-fn the_worked_words_end_as_they_should(rt: HostRuntime) -> Result<(), Fail> {
+fn compounds_end_as_they_should(rt: HostRuntime) -> Result<(), Fail> {
     let alloc = rt.alloc();
-    let cases: [(&str, Result<(usize, CompoundEnd), ArgsFault>); 9] = [
+    let cases: [(&str, Result<(usize, CompoundEnd), ArgsFault>); 12] = [
         (
             "00000000000000000000000100000018",
             Ok((1, CompoundEnd::Clean)),
@@ -87,6 +87,20 @@ fn the_worked_words_end_as_they_should(rt: HostRuntime) -> Result<(), Fail> {
         (
             "000000000000000000000041",
             Ok((0, CompoundEnd::TooMany { count: 65 })),
+        ),
+        // the first number behind those of operations
+        (
+            "00000000000000000000000100000028",
+            Ok((0, CompoundEnd::Illegal { number: 40 })),
+        ),
+        // CREATE of the last two types of objects, whose name and attributes are empty
+        (
+            "0000000000000000000000010000000600000008000000000000000000000000",
+            Ok((1, CompoundEnd::Clean)),
+        ),
+        (
+            "0000000000000000000000010000000600000009000000000000000000000000",
+            Ok((1, CompoundEnd::Clean)),
         ),
     ];
     for (digits, want) in cases {
@@ -383,22 +397,278 @@ fn numbers_outside_their_range_cant_be_read(rt: HostRuntime) -> Result<(), Fail>
     Ok(())
 }
 
+/// Operations up to an item that has a limit, as RFC 7531 and this server give it, and what is behind the item. Between them are the
+/// limit, which is one of bytes or of words, and how many bytes are so long.
+const LIMITED: [(&str, u32, usize, &str); 34] = [
+    (
+        // PUTFH: a filehandle
+        "00000016", 128, 128, "",
+    ),
+    (
+        // WRITE: the bytes
+        "0000002600000007000000030000000000000009000000000000000800000002",
+        1_048_576,
+        1_048_576,
+        "",
+    ),
+    (
+        // OPEN: the owner
+        "000000120000000100000001000000000000000000000005",
+        1_024,
+        1_024,
+        "000000000000000100000000",
+    ),
+    (
+        // LOCK: a new owner
+        "0000000c000000010000000000000000000000000000000000000001000000010000000100000007000000030000000000000009000000010000000000000005",
+        1_024,
+        1_024,
+        "",
+    ),
+    (
+        // LOCKT: the owner
+        "0000000d00000001000000000000000000000000000000010000000000000005",
+        1_024,
+        1_024,
+        "",
+    ),
+    (
+        // RELEASE_LOCKOWNER: the owner
+        "000000270000000000000005",
+        1_024,
+        1_024,
+        "",
+    ),
+    (
+        // SETCLIENTID: the client's string
+        "000000230000000000000001",
+        1_024,
+        1_024,
+        "40000000000000000000000000000001",
+    ),
+    (
+        // SETCLIENTID: its netid
+        "0000002300000000000000010000000040000000",
+        1_024,
+        1_024,
+        "0000000000000001",
+    ),
+    (
+        // SETCLIENTID: its address
+        "000000230000000000000001000000004000000000000000",
+        1_024,
+        1_024,
+        "00000001",
+    ),
+    (
+        // LINK: the name
+        "0000000b", 1_048_576, 1_048_576, "",
+    ),
+    (
+        // LOOKUP: the name
+        "0000000f", 1_048_576, 1_048_576, "",
+    ),
+    (
+        // REMOVE: the name
+        "0000001c", 1_048_576, 1_048_576, "",
+    ),
+    (
+        // RENAME: the old name
+        "0000001d", 1_048_576, 1_048_576, "00000000",
+    ),
+    (
+        // RENAME: the new name
+        "0000001d00000000",
+        1_048_576,
+        1_048_576,
+        "",
+    ),
+    (
+        // SECINFO: the name
+        "00000021", 1_048_576, 1_048_576, "",
+    ),
+    (
+        // CREATE: the name of a directory
+        "0000000600000002",
+        1_048_576,
+        1_048_576,
+        "0000000000000000",
+    ),
+    (
+        // CREATE: where a link leads
+        "0000000600000005",
+        1_048_576,
+        1_048_576,
+        "000000000000000000000000",
+    ),
+    (
+        // OPEN: the name behind claim 0
+        "000000120000000100000001000000000000000000000005000000000000000000000000",
+        1_048_576,
+        1_048_576,
+        "",
+    ),
+    (
+        // OPEN: the name behind claim 2
+        "00000012000000010000000100000000000000000000000500000000000000000000000200000007000000030000000000000009",
+        1_048_576,
+        1_048_576,
+        "",
+    ),
+    (
+        // OPEN: the name behind claim 3
+        "000000120000000100000001000000000000000000000005000000000000000000000003",
+        1_048_576,
+        1_048_576,
+        "",
+    ),
+    (
+        // GETATTR: the words
+        "00000009", 8, 32, "",
+    ),
+    (
+        // READDIR: the words
+        "0000001a000000000000000000000000000000000000000000000000",
+        8,
+        32,
+        "",
+    ),
+    (
+        // NVERIFY: the words of the attributes
+        "00000011", 8, 32, "00000000",
+    ),
+    (
+        // NVERIFY: the values of the attributes
+        "0000001100000000",
+        65_536,
+        65_536,
+        "",
+    ),
+    (
+        // VERIFY: the words of the attributes
+        "00000025", 8, 32, "00000000",
+    ),
+    (
+        // VERIFY: the values of the attributes
+        "0000002500000000",
+        65_536,
+        65_536,
+        "",
+    ),
+    (
+        // SETATTR: the words of the attributes
+        "0000002200000007000000030000000000000009",
+        8,
+        32,
+        "00000000",
+    ),
+    (
+        // SETATTR: the values of the attributes
+        "000000220000000700000003000000000000000900000000",
+        65_536,
+        65_536,
+        "",
+    ),
+    (
+        // CREATE: the words of the attributes
+        "000000060000000200000000",
+        8,
+        32,
+        "00000000",
+    ),
+    (
+        // CREATE: the values of the attributes
+        "00000006000000020000000000000000",
+        65_536,
+        65_536,
+        "",
+    ),
+    (
+        // OPEN, opentype 1 and mode 0: the words of the attributes
+        "000000120000000100000001000000000000000000000005000000000000000100000000",
+        8,
+        32,
+        "000000000000000100000000",
+    ),
+    (
+        // OPEN, opentype 1 and mode 0: the values of the attributes
+        "00000012000000010000000100000000000000000000000500000000000000010000000000000000",
+        65_536,
+        65_536,
+        "0000000100000000",
+    ),
+    (
+        // OPEN, opentype 1 and mode 1: the words of the attributes
+        "000000120000000100000001000000000000000000000005000000000000000100000001",
+        8,
+        32,
+        "000000000000000100000000",
+    ),
+    (
+        // OPEN, opentype 1 and mode 1: the values of the attributes
+        "00000012000000010000000100000000000000000000000500000000000000010000000100000000",
+        65_536,
+        65_536,
+        "0000000100000000",
+    ),
+];
+
+/// A compound of one operation: what is before an item, its length, so many bytes that are 0, and what is behind it.
+fn around(
+    alloc: Global,
+    front: &str,
+    length: u32,
+    size: usize,
+    behind: &str,
+) -> Result<Vec<u8>, Fail> {
+    let mut bytes = bytes_of(alloc, "000000000000000000000001")?;
+    bytes.extend_from_slice(&bytes_of(alloc, front)?)?;
+    bytes.extend_from_slice(&length.to_be_bytes())?;
+    bytes.resize(bytes.len().saturating_add(size), 0)?;
+    bytes.extend_from_slice(&bytes_of(alloc, behind)?)?;
+    Ok(bytes)
+}
+
 #[test]
-fn lengths_may_be_their_limits(rt: HostRuntime) -> Result<(), Fail> {
+fn items_are_read_up_to_their_limit_and_not_past_it(rt: HostRuntime) -> Result<(), Fail> {
     let alloc = rt.alloc();
-    for (tag, handle, want) in [
-        (1024, 128, Ok((1, CompoundEnd::Clean))),
-        (1024, 132, Ok((0, CompoundEnd::BadXdr { op: 22 }))),
-        (1028, 128, Err(ArgsFault::GarbageAt { at: 0 })),
+    for (front, limit, size, behind) in LIMITED {
+        let longest = around(alloc, front, limit, size, behind)?;
+        let op = u32::from(*longest.get(15).ok_or("a number")?);
+        assert_eq!(rt;
+            rewritten(alloc, &longest)?.as_slice(),
+            longest.as_slice(),
+            "{front}"
+        );
+        let refused = Ok((0, CompoundEnd::BadXdr { op }));
+        // one more, and what pads it
+        let longer = around(
+            alloc,
+            front,
+            limit.saturating_add(1),
+            size.saturating_add(4),
+            behind,
+        )?;
+        assert_eq!(rt; outline(alloc, &longer), refused, "{front}");
+        let endless = around(alloc, front, u32::MAX, size, behind)?;
+        assert_eq!(rt; outline(alloc, &endless), refused, "{front}");
+    }
+    Ok(())
+}
+
+#[test]
+fn a_tag_is_read_up_to_its_limit_and_not_past_it(rt: HostRuntime) -> Result<(), Fail> {
+    let alloc = rt.alloc();
+    for (length, size, want) in [
+        (1024, 1024, Ok((0, CompoundEnd::Clean))),
+        (1025, 1028, Err(ArgsFault::GarbageAt { at: 0 })),
+        (u32::MAX, 1024, Err(ArgsFault::GarbageAt { at: 0 })),
     ] {
         let mut bytes = Vec::new(alloc);
-        bytes.extend_from_slice(&u32::to_be_bytes(tag))?;
-        bytes.resize(bytes.len() + tag as usize, 0)?;
-        for word in [0, 1, 22, handle] {
-            bytes.extend_from_slice(&u32::to_be_bytes(word))?;
-        }
-        bytes.resize(bytes.len() + handle as usize, 0)?;
-        assert_eq!(rt; outline(alloc, &bytes), want, "{tag} {handle}");
+        bytes.extend_from_slice(&u32::to_be_bytes(length))?;
+        // the tag, a minor version of 0 and no operation
+        bytes.resize(bytes.len().saturating_add(size).saturating_add(8), 0)?;
+        assert_eq!(rt; outline(alloc, &bytes), want, "a tag of {length}");
     }
     Ok(())
 }

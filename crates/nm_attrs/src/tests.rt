@@ -337,3 +337,86 @@ fn a_word_of_ones_is_a_named_fault_or_another_value(rt: HostRuntime) -> Result<(
     }
     Ok(())
 }
+
+/// Items that have a limit, as RFC 7531 and this server give it: the words of a bitmap that chooses one attribute, the bytes of its
+/// value up to the item, the limit, how many bytes are so long, and the bytes behind the item.
+const LIMITED: [(u32, &[u8], u32, usize, &[u8]); 5] = [
+    // supported_attrs: 8 words
+    (1, &[], 8, 32, &[]),
+    // filehandle: 128 bytes
+    (1 << 19, &[], 128, 128, &[]),
+    // fs_locations: the name of a root, of a server, and of the root there
+    (1 << 24, &[0, 0, 0, 1], 1_048_576, 1_048_576, &[0, 0, 0, 0]),
+    (
+        1 << 24,
+        &[0, 0, 0, 0, 0, 0, 0, 1, 0, 0, 0, 1],
+        1_048_576,
+        1_048_576,
+        &[0, 0, 0, 0],
+    ),
+    (
+        1 << 24,
+        &[0, 0, 0, 0, 0, 0, 0, 1, 0, 0, 0, 0, 0, 0, 0, 1],
+        1_048_576,
+        1_048_576,
+        &[],
+    ),
+];
+
+/// Bytes, a length, so many bytes that are 0, and bytes.
+fn around(
+    alloc: Global,
+    front: &[u8],
+    length: u32,
+    size: usize,
+    behind: &[u8],
+) -> Result<Vec<u8>, Fail> {
+    let mut bytes = Vec::from_slice(alloc, front)?;
+    bytes.extend_from_slice(&length.to_be_bytes())?;
+    bytes.resize(bytes.len().saturating_add(size), 0)?;
+    bytes.extend_from_slice(behind)?;
+    Ok(bytes)
+}
+
+#[test]
+fn items_are_read_up_to_their_limit_and_not_past_it(rt: HostRuntime) -> Result<(), Fail> {
+    let alloc = rt.alloc();
+    for (word, front, limit, size, behind) in LIMITED {
+        let bitmap = bitmap_of(alloc, &[word])?;
+        let longest = around(alloc, front, limit, size, behind)?;
+        assert_eq!(rt; read_fattr(alloc, &bitmap, &longest).err(), None);
+        let past = limit.saturating_add(1);
+        // one more, and what pads it; then a length far past the bytes
+        for (length, size) in [(past, size.saturating_add(4)), (u32::MAX, size)] {
+            let longer = around(alloc, front, length, size, behind)?;
+            let fault = XdrFault::TooLong {
+                at: front.len(),
+                got: u64::from(length),
+                max: u64::from(limit),
+            };
+            let told = read_fattr(alloc, &bitmap, &longer).err();
+            assert_eq!(rt; told, Some(AttrFault::Xdr(fault)));
+        }
+    }
+    Ok(())
+}
+
+#[test]
+fn rows_without_end_are_short_where_the_bytes_end(rt: HostRuntime) -> Result<(), Fail> {
+    let alloc = rt.alloc();
+    let bitmap = bitmap_of(alloc, &[1 << 24])?;
+    // the names of a root, locations, the names of a server, and those of the root there
+    let fronts: [&[u8]; 4] = [
+        &[],
+        &[0, 0, 0, 0],
+        &[0, 0, 0, 0, 0, 0, 0, 1],
+        &[0, 0, 0, 0, 0, 0, 0, 1, 0, 0, 0, 0],
+    ];
+    for front in fronts {
+        let endless = around(alloc, front, u32::MAX, 1_048_576, &[])?;
+        let fault = XdrFault::Short { at: endless.len() };
+        let told = read_fattr(alloc, &bitmap, &endless).err();
+        assert_eq!(rt; told, Some(AttrFault::Xdr(fault)));
+    }
+    Ok(())
+}
