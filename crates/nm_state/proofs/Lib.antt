@@ -1,3 +1,5 @@
 pub mod HolderLemmas
 pub mod OpeningLemmas
 pub mod AttributeLemmas
+pub mod EditLemmas
+pub mod AppliedLemmas

@@ -1,7 +1,7 @@
 //! The attributes that a request sets, as they came (RFC 7530, 5.8): of the supported ones size and mode alone can be set.
 ghost use Rattle.std.specs.Prelude.{◌≡◌, ◌==◌, ◌≤◌, true, false, [], ◌∷◌, length, bit_or, IfOk};
 ghost use Rattle.std.specs.List.{list_all};
-ghost use Rattle.nm_rules.specs.Attributes.{are_within, asked_mode, asked_size, asks_of, has_mode, has_size, set_words, supported_words, settable_words, values_ask};
+ghost use Rattle.nm_rules.specs.Attributes.{are_within, asked_mode, asked_size, asks_of, has_mode, has_size, set_words, sets_any, supported_words, settable_words, values_ask};
 ghost use Rattle.nm_rules.specs.Wire.{hyper_in, word_in};
 ghost use Rattle.nm_state.specs.Asked.{asks_of_code};
 
@@ -41,6 +41,17 @@ impl Asked {
         match self {
             Asked::Sets { mode, .. } => mode,
             Asked::Unsupported | Asked::Invalid => None,
+        }
+    }
+
+    /// Something is set.
+    pub fn sets_any(self) -> bool
+        ensures { result ≡ sets_any (asks_of_code self) }
+    {
+        match (self.size(), self.mode()) {
+            (None, None) => false,
+            (Some(_), _) => true,
+            (None, Some(_)) => true,
         }
     }
 }

@@ -8,6 +8,8 @@ mod data;
 mod holders;
 mod names;
 mod opens;
+mod parts;
+mod setting;
 mod shown;
 mod state;
 mod tables;
