@@ -1,2 +1,3 @@
+pub mod AttributeLemmas
 pub mod HolderLemmas
 pub mod OpeningLemmas

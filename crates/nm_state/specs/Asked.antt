@@ -1,4 +1,4 @@
--- What attributes ask for, as the code has it.
+-- What a request's attributes ask for, in the words of the definitions.
 use Rattle.nm_rules.specs.Attributes.{Asks}
 use Rattle.nm_state.specs.declared.attributes.Asked.{Asked}
 use Rattle.nm_state.specs.declared.attributes.Asked.TheVariants.{Unsupported, Invalid, Sets}
