@@ -1,0 +1,8 @@
+//! The files of one file system: their names, their bytes and their attributes (RFC 7530, 2 to 5 and 12).
+#![tactic(auto)]
+
+mod bytes;
+mod rows;
+mod tree;
+
+pub use tree::Tree;
