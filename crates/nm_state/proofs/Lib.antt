@@ -1,5 +1,5 @@
-pub mod HolderLemmas
-pub mod OpeningLemmas
+pub mod AppliedLemmas
 pub mod AttributeLemmas
 pub mod EditLemmas
-pub mod AppliedLemmas
+pub mod HolderLemmas
+pub mod OpeningLemmas

@@ -1,7 +1,7 @@
 -- What an OPEN and a CLOSE that nothing stops leave of the tables.
-use Rattle.std.specs.Prelude.{◌≡◌, ℕ, Option}
+use Rattle.std.specs.Prelude.{◌≡◌, ◌<◌, ◌≤◌, ◌-◌, ◌^◌, ℕ}
 use Rattle.nm_rules.specs.Parties.{Party}
-use Rattle.nm_rules.specs.Contents.{TreeWord, file_at, tree_after}
+use Rattle.nm_rules.specs.Contents.{TreeNow, TreeWord, file_at, size_limit, total_limit, total_size, tree_after}
 use Rattle.nm_rules.specs.Shares.{put_open, opens_after}
 use Rattle.nm_rules.specs.Shares.OpenWord.{Drop, DropOf}
 use Rattle.nm_rules.specs.Past.{claimed_name, opener, open_tree}
@@ -32,7 +32,7 @@ after_word word s = record s { tree = tree_after word s.tree }
 
 unfoldable pub after_open : Seen → Party → ℕ → OpenArgs → Seen
 after_open s party file args =
-    after_word (open_word s file args) (after_taking s (opener party args) (file_to_open s file args) args.access args.deny)
+    after_taking (after_word (open_word s file args) s) (opener party args) (file_to_open s file args) args.access args.deny
 
 unfoldable pub after_drop : Seen → ℕ → Seen
 after_drop s counter = record s { opens = opens_after (Drop counter) s.opens }
@@ -44,3 +44,10 @@ after_end s party = record s { opens = opens_after (DropOf party) s.opens }
 pub record Applied (before : Seen) (event : Event) (reply : Reply) (new : Seen) : Type 0 where
   pub answer : reply ≡ answer_to before event
   pub tables : new ≡ after before event reply
+
+-- There is room for a file of so many bytes, in the numbers too.
+pub record HasRoom (tree : TreeNow) (size : ℕ) : Type 0 where
+  pub changes : tree.change < 2 ^ 63
+  pub files : tree.last_file < 2 ^ 63
+  pub fits : size ≤ size_limit
+  pub room : size ≤ total_limit - total_size tree.table

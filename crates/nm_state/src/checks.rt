@@ -1,5 +1,7 @@
 //! Classes of refusal that operations share.
 ghost use Rattle.std.specs.Prelude.{◌≡◌, ◌≤◌, option_copied};
+ghost use Rattle.std.specs.List.{list_any};
+ghost use Rattle.nm_rules.specs.Lists.{is_empty};
 ghost use Rattle.nm_rules.specs.Names.{name_fault, is_bad_name, parts_paths};
 ghost use Rattle.nm_rules.specs.Contents.{size_limit, total_limit, is_directory};
 ghost use Rattle.nm_rules.specs.Checks.{refuse_if, lease_stop, missing_stop, is_dir, is_no_dir, arguments_fault};
@@ -10,9 +12,7 @@ ghost use Rattle.nm_state.specs.Asked.{asks_of_code};
 
 use crate::attributes::Asked;
 use crate::tables::Tables;
-use nm_rules::{
-    ChangeInfo, FileKind, FileRow, Instance, OpStatus, OpenRow, StateRef, Verdict,
-};
+use nm_rules::{ChangeInfo, FileKind, FileRow, Instance, OpStatus, OpenRow, StateRef, Verdict};
 
 /// The last counter, file's number and change's number: none comes after it.
 pub const LAST: u64 = 1 << 63;
@@ -101,12 +101,19 @@ pub fn stateid_stop(file: u64, stateid: StateRef, access: u32, row: &OpenRow) ->
     ))
 }
 
+// A slash or a zero byte is in the name.
+fn parts_paths(name: &[u8]) -> bool
+    ensures { result ≡ list_any parts_paths name.now }
+{
+    name.iter().any(|byte| *byte == b'/' || *byte == 0)
+}
+
 // `.`, `..`, or a name with a byte that parts paths.
 #[tactic(auto, unfolding(nm_rules::specs::Names::is_bad_name))]
 fn is_bad_name(name: &[u8]) -> bool
     ensures { result ≡ is_bad_name name.now }
 {
-    name == b".".as_slice() || name == b"..".as_slice() || name.iter().any(|byte| *byte == b'/' || *byte == 0)
+    name == b".".as_slice() || name == b"..".as_slice() || parts_paths(name)
 }
 
 // What is wrong with a name that isn't empty.
@@ -121,18 +128,26 @@ fn name_fault(name: &[u8]) -> Option<OpStatus>
     }
 }
 
+/// There are no bytes.
+#[tactic(auto, unfolding(nm_rules::specs::Lists::is_empty))]
+pub fn is_empty(bytes: &[u8]) -> bool
+    ensures { result ≡ is_empty bytes.now }
+{
+    match bytes {
+        [] => true,
+        [..] => false,
+    }
+}
+
 /// What is wrong with arguments that have a name and attributes, and may be invalid by something else.
 #[tactic(auto, unfolding(nm_rules::specs::Checks::arguments_fault))]
 pub fn arguments_fault(invalid: bool, name: &[u8], asks: Asked) -> Option<OpStatus>
     ensures { result ≡ arguments_fault invalid name.now (asks_of_code asks) }
 {
-    if invalid || name.is_empty() || asks == Asked::Invalid {
+    if invalid || is_empty(name) || asks.is_invalid() {
         return Some(OpStatus::Inval);
     }
-    name_fault(name).or(refuse_if(
-        asks == Asked::Unsupported,
-        OpStatus::AttrNotSupp,
-    ))
+    name_fault(name).or(refuse_if(asks.is_unsupported(), OpStatus::AttrNotSupp))
 }
 
 impl Tables {
@@ -257,7 +272,7 @@ pub fn is_no_dir(row: Option<&FileRow>) -> bool
     }
 }
 
-/// A file's bytes, 0 where there is no such file.
+/// How many bytes a file has, 0 where there is no such file.
 pub fn size_of(row: Option<&FileRow>) -> u64
     ensures { result ≡ size_of (option_copied row.entry) }
 {

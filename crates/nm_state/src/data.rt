@@ -11,8 +11,8 @@ ghost use Rattle.nm_rules.specs.declared.calls.Event.TheVariants.{Asked};
 ghost use Rattle.nm_rules.specs.declared.calls.Deed.TheVariants.{Commit as CommitDeed, Read as ReadDeed, Write as WriteDeed};
 ghost use Rattle.nm_state.specs.Opening.{Applied, after_word};
 
-use crate::checks::{is_own, lease_refusal, meets, refuse_if, size_of, stateid_stop};
-use crate::parts::{TRANSFER_LIMIT, is_empty, part, taken};
+use crate::checks::{is_empty, is_own, lease_refusal, meets, refuse_if, size_of, stateid_stop};
+use crate::parts::{TRANSFER_LIMIT, part, taken};
 use crate::tables::Tables;
 use nm_rules::{
     Bytes, CommitArgs, FileRow, Instance, Memory, OpStatus, ReadArgs, ReadOk, Reply, ReplyValue,

@@ -1,7 +1,6 @@
 //! Parts of the bytes of a file, and of those that a WRITE brings.
 ghost use Rattle.std.specs.Prelude.{◌≡◌, ◌≤◌, take, length};
 ghost use Rattle.nm_rules.specs.Contents.{part, taken};
-ghost use Rattle.nm_rules.specs.Lists.{is_empty};
 
 /// The bytes of one READ or WRITE.
 pub const TRANSFER_LIMIT: usize = 65_536;
@@ -31,15 +30,4 @@ pub fn taken(bytes: &[u8]) -> &[u8]
     ensures bound { length result.now ≤ 65536 }
 {
     front(bytes, TRANSFER_LIMIT)
-}
-
-/// There are none.
-#[tactic(auto, unfolding(nm_rules::specs::Lists::is_empty))]
-pub fn is_empty(bytes: &[u8]) -> bool
-    ensures { result ≡ is_empty bytes.now }
-{
-    match bytes {
-        [] => true,
-        [_, ..] => false,
-    }
 }

@@ -108,7 +108,7 @@ impl Tables {
         let (caller, file) = (call.caller, call.file);
         match &call.deed {
             Deed::Access(args) => Ok(self.access_answer(caller, file, args, verdict)?),
-            Deed::Close(args) => Ok(self.close_answer(caller, file, args, verdict)?),
+            Deed::Close(args) => Ok(self.close_answer(caller, file, args, verdict)),
             Deed::Commit(args) => Ok(self.commit_answer(caller, file, args, verdict)?),
             Deed::Create(args) => Ok(self.create_answer(caller, file, args, verdict)?),
             Deed::GetAttr(args) => Ok(self.getattr_answer(caller, file, args, verdict)?),
@@ -124,13 +124,14 @@ impl Tables {
     }
 
     // Answers a call, and carries it out where nothing stops it.
+    #[tactic(auto, using(crate::proofs::OpeningLemmas::applied_same))]
     fn call(&mut self, call: &Call, verdict: Verdict) -> Result<Reply, Memory>
         ensures { IfOk result (λ r. Applied self.old (Asked call.now verdict) r self.new) }
     {
         let (caller, file) = (call.caller, call.file);
         match &call.deed {
             Deed::Access(args) => Ok(self.access_answer(caller, file, args, verdict)?),
-            Deed::Close(args) => Ok(self.close(caller, file, args, verdict)?),
+            Deed::Close(args) => Ok(self.close(caller, file, args, verdict)),
             Deed::Commit(args) => Ok(self.commit_answer(caller, file, args, verdict)?),
             Deed::Create(args) => Ok(self.create(caller, file, args, verdict)?),
             Deed::GetAttr(args) => Ok(self.getattr_answer(caller, file, args, verdict)?),
