@@ -5,9 +5,9 @@ use Rattle.std.specs.Option.{option_or}
 use Rattle.std.proofs.lemmas.Bool.Decides.{nat_tests}
 use Rattle.nm_rules.specs.Attributes.{Asks, asked_mode, asked_size, set_words, sets_any}
 use Rattle.nm_rules.specs.Checks.{refuse_if}
-use Rattle.nm_rules.specs.Contents.{file_at, size_limit, taken, total_limit, total_size}
+use Rattle.nm_rules.specs.Contents.{file_at, files_limit, size_limit, taken, total_limit, total_size}
 use Rattle.nm_rules.specs.Data.{set_limit, write_limit, written_size}
-use Rattle.nm_rules.specs.Files.{changes_past_end, current, fills_up, size_of, sized_limit}
+use Rattle.nm_rules.specs.Files.{changes_past_end, current, fills_up, makes_past_end, size_of, sized_limit}
 use Rattle.nm_rules.specs.Lists.{is_empty}
 use Rattle.nm_rules.specs.Seen.{Seen}
 use Rattle.nm_rules.specs.declared.args.WriteArgs.{WriteArgs}
@@ -19,12 +19,31 @@ use Rattle.nm_tree.specs.Rows.{total_with}
 not_above : (a b : ℕ) → nat_lt a b ≡ false → b ≤ a
 not_above a b h = grind (arith, nat_tests)
 
-below_end : (s : Seen) → changes_past_end s ≡ false → s.tree.change < 2 ^ 63
+-- there is a number for the next change
+pub below_end : (s : Seen) → changes_past_end s ≡ false → s.tree.change < 2 ^ 63
 below_end s h = grind (arith, nat_tests)
 
 second_false : (a b : Bool) → (a && b) ≡ false → a ≡ true → b ≡ false
 second_false true b h it = h
 second_false false b h it = cc
+
+first_false : (a b : Bool) → (a || b) ≡ false → a ≡ false
+first_false true b h = cc
+first_false false b h = refl
+
+more_false : (a b : Bool) → (a || b) ≡ false → b ≡ false
+more_false true b h = cc
+more_false false b h = h
+
+-- where something may be made there is a number for the change
+pub makes_changes : (s : Seen) → makes_past_end s ≡ false → s.tree.change < 2 ^ 63
+makes_changes s h = below_end s (first_false _ _ (first_false _ _ h))
+
+-- and one for the file
+pub makes_files : (s : Seen) → makes_past_end s ≡ false → s.tree.last_file < 2 ^ 63
+makes_files s h =
+    let its : nat_le (2 ^ 63) s.tree.last_file ≡ false = more_false (changes_past_end s) (nat_le (2 ^ 63) s.tree.last_file) (first_false _ (nat_le files_limit (length s.tree.table)) h) in
+    grind (arith, nat_tests)
 
 -- a WRITE keeps to the size of a file
 pub write_fits : (s : Seen) (file : ℕ) (args : WriteArgs) → write_limit s file args ≡ None

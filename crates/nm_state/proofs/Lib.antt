@@ -3,3 +3,4 @@ pub mod AttributeLemmas
 pub mod EditLemmas
 pub mod HolderLemmas
 pub mod OpeningLemmas
+pub mod PageLemmas

@@ -6,6 +6,7 @@ mod attributes;
 mod checks;
 mod data;
 mod holders;
+mod listing;
 mod names;
 mod opens;
 mod parts;
