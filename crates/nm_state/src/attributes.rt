@@ -22,7 +22,6 @@ pub enum Asked {
     },
 }
 
-
 impl Asked {
     /// The size that is to be set, in bytes.
     pub fn size(self) -> Option<u64>

@@ -6,12 +6,9 @@ ghost use Rattle.nm_rules.specs.declared.calls.Deed.TheVariants.{Commit as Commi
 ghost use Rattle.nm_state.specs.Opening.{Applied};
 
 use crate::tables::Tables;
-use nm_rules::{
-    CommitArgs, Instance, Memory, ReadArgs, Reply, SetAttrArgs, Verdict, WriteArgs,
-};
+use nm_rules::{CommitArgs, Instance, Memory, ReadArgs, Reply, SetAttrArgs, Verdict, WriteArgs};
 
 impl Tables {
-
     /// STUB
     pub fn commit_answer(
         &self,

@@ -12,7 +12,6 @@ use nm_rules::{
 };
 
 impl Tables {
-
     /// STUB
     pub fn access_answer(
         &self,
