@@ -5,11 +5,15 @@
 mod attributes;
 mod checks;
 mod data;
+#[cfg(test)]
+mod file_tests;
 mod holders;
 mod names;
 mod opens;
 mod shown;
 mod state;
+#[cfg(test)]
+mod steps;
 mod tables;
 #[cfg(test)]
 mod tests;
