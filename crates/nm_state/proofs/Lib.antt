@@ -1,3 +1,5 @@
+pub mod AppliedLemmas
 pub mod AttributeLemmas
+pub mod EditLemmas
 pub mod HolderLemmas
 pub mod OpeningLemmas

@@ -1,7 +1,7 @@
 //! The attributes that a request sets, as they came (RFC 7530, 5.8): of the supported ones size and mode alone can be set.
 ghost use Rattle.std.specs.Prelude.{◌≡◌, ◌==◌, ◌≤◌, true, false, [], ◌∷◌, length, bit_or, IfOk};
 ghost use Rattle.std.specs.List.{list_all};
-ghost use Rattle.nm_rules.specs.Attributes.{are_within, asked_mode, asked_size, asks_of, has_mode, has_size, is_invalid, is_unsupported, set_words, supported_words, settable_words, values_ask};
+ghost use Rattle.nm_rules.specs.Attributes.{are_within, asked_mode, asked_size, asks_of, has_mode, has_size, is_invalid, is_unsupported, set_words, sets_any, values_ask};
 ghost use Rattle.nm_rules.specs.Wire.{hyper_in, word_in};
 ghost use Rattle.nm_state.specs.Asked.{asks_of_code};
 
@@ -42,9 +42,18 @@ impl Asked {
             Asked::Unsupported | Asked::Invalid => None,
         }
     }
-}
 
-impl Asked {
+    /// Something is set.
+    pub fn sets_any(self) -> bool
+        ensures { result ≡ sets_any (asks_of_code self) }
+    {
+        match (self.size(), self.mode()) {
+            (None, None) => false,
+            (Some(_), _) => true,
+            (None, Some(_)) => true,
+        }
+    }
+
     /// One can't be set, or the values can't be read.
     pub fn is_invalid(self) -> bool
         ensures { result ≡ is_invalid (asks_of_code self) }

@@ -128,12 +128,12 @@ fn name_fault(name: &[u8]) -> Option<OpStatus>
     }
 }
 
-// A name of no bytes.
+/// There are no bytes.
 #[tactic(auto, unfolding(nm_rules::specs::Lists::is_empty))]
-fn is_empty(name: &[u8]) -> bool
-    ensures { result ≡ is_empty name.now }
+pub fn is_empty(bytes: &[u8]) -> bool
+    ensures { result ≡ is_empty bytes.now }
 {
-    match name {
+    match bytes {
         [] => true,
         [..] => false,
     }

@@ -426,7 +426,8 @@ fn name_of(number: u16) -> [u8; 2] {
 fn make_dirs(alloc: Global, state: &mut FsState, count: u16) -> Result<bool, Fail> {
     let mut fine = true;
     for number in 0..count {
-        let made = Step::Ask(b'A', 1, What::MakeDir(&name_of(number)));
+        let name = name_of(number);
+        let made = Step::Ask(b'A', 1, What::MakeDir(&name));
         for reply in &go(alloc, state, &[made])? {
             fine = fine && reply.status == OpStatus::Nfs4Ok;
         }
@@ -438,7 +439,8 @@ fn make_dirs(alloc: Global, state: &mut FsState, count: u16) -> Result<bool, Fai
 fn make_files(alloc: Global, state: &mut FsState, count: u16) -> Result<bool, Fail> {
     let mut fine = true;
     for number in 0..count {
-        let made = open(b'A', &name_of(number), How::Sized(1 << 20), 3, 0);
+        let name = name_of(number);
+        let made = open(b'A', &name, How::Sized(1 << 20), 3, 0);
         for reply in &go(alloc, state, &[made])? {
             fine = fine && reply.status == OpStatus::Nfs4Ok;
         }

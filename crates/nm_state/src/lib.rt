@@ -10,6 +10,8 @@ mod file_tests;
 mod holders;
 mod names;
 mod opens;
+mod parts;
+mod setting;
 mod shown;
 mod state;
 #[cfg(test)]

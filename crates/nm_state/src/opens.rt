@@ -240,7 +240,7 @@ impl Tables {
     }
 
     // A file that is there, or isn't.
-    fn name_stop(&self, file: u64, args: &OpenArgs) -> Option<OpStatus>
+    fn target_stop(&self, file: u64, args: &OpenArgs) -> Option<OpStatus>
         ensures { result ≡ name_refusal args.now.opentype (target self.now file args.now) (row_of self.now.tree.table (target self.now file args.now)) }
     {
         let target = self.target(file, &args.claim);
@@ -321,7 +321,7 @@ impl Tables {
         if let Some(status) = open_fault(args) {
             return Some(status);
         }
-        if let Some(status) = self.name_stop(file, args) {
+        if let Some(status) = self.target_stop(file, args) {
             return Some(status);
         }
         let opened = self.file_to_open(file, args);
