@@ -1,5 +1,5 @@
 -- The tables after an answer are those that the code leaves.
-use Rattle.std.proofs.Common.{◌≡◌, ℕ, ◌+◌, Bool, true, false, cond, List, Option, Some, None, refl, ap, sym, ◌∙◌, arith}
+use Rattle.std.proofs.Common.{◌≡◌, ℕ, ◌+◌, Bool, true, false, cond, List, Option, Some, None, refl, ap, sym, subst, ◌∙◌, arith}
 use Rattle.std.specs.Prelude.{is_none, unwrap_or, IsSome, ◌&&◌, ◌||◌, ◌<◌, ◌≤◌, ◌-◌, ◌^◌, nat_le, nat_lt}
 use Rattle.std.proofs.lemmas.Bool.{true≢false}
 use Rattle.std.proofs.lemmas.Bool.Decides.{nat_tests}
@@ -125,6 +125,13 @@ applied_same s caller file d verdict r same it = record { answer = it; tables = 
     by_deed (deed.SetAttr _) h = absurd (true≢false (sym h))
     by_deed (deed.Write _) h = absurd (true≢false (sym h))
 
+pub applied_as : (s : Seen) (call : Call) (d : Deed) (verdict : Verdict) (r : Reply) → no_change d ≡ true → call.deed ≡ d
+    → r ≡ answer_to s (Asked (record { caller = call.caller; file = call.file; deed = d }) verdict)
+    → Applied s (Asked call verdict) r s
+applied_as s call d verdict r same it told =
+    subst (λ x. Applied s (Asked (record { caller = call.caller; file = call.file; deed = x }) verdict) r s) (sym it)
+    (applied_same s call.caller call.file d verdict r same told)
+
 -- at first there is the root alone and nothing is held, so the tables are sound
 pub empty_sound : (fs : ℕ) (grants : Bool) → IsSound (empty fs grants)
 empty_sound fs grants = record { rising = refl; apart = refl; numbers = refl }
@@ -231,6 +238,7 @@ room_to_make s opentype free =
   where
     under : (n : ℕ) → nat_le (2 ^ 63) n ≡ false → n < 2 ^ 63
     under n h = grind (arith, nat_tests)
+
     by_size : (size : Option ℕ) → sized_limit s None size ≡ None
         → (unwrap_or size 0 ≤ size_limit) × (unwrap_or size 0 ≤ total_limit - total_size s.tree.table)
     by_size None free = (omega arith, omega arith)

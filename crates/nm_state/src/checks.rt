@@ -194,9 +194,7 @@ impl Tables {
     pub fn makes_past_end(&self) -> bool
         ensures { result ≡ makes_past_end self.now }
     {
-        self.changes_past_end()
-            || LAST <= self.tree.last_file()
-            || FILES_LIMIT <= self.tree.count()
+        self.changes_past_end() || LAST <= self.tree.last_file() || FILES_LIMIT <= self.tree.count()
     }
 
     /// With that size of a file the bytes of all files are too many.
@@ -213,8 +211,10 @@ impl Tables {
     {
         match size {
             None => None,
-            Some(size) => refuse_if(SIZE_LIMIT < size, OpStatus::FBig)
-                .or(refuse_if(self.fills_up(size_of(row), size), OpStatus::NoSpc)),
+            Some(size) => refuse_if(SIZE_LIMIT < size, OpStatus::FBig).or(refuse_if(
+                self.fills_up(size_of(row), size),
+                OpStatus::NoSpc,
+            )),
         }
     }
 

@@ -5,6 +5,8 @@
 mod attributes;
 mod checks;
 mod data;
+#[cfg(test)]
+mod file_tests;
 mod holders;
 mod listing;
 mod names;
@@ -13,6 +15,8 @@ mod parts;
 mod setting;
 mod shown;
 mod state;
+#[cfg(test)]
+mod steps;
 mod tables;
 #[cfg(test)]
 mod tests;

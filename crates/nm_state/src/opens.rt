@@ -126,8 +126,9 @@ fn open_fault(args: &OpenArgs) -> Option<OpStatus>
     ensures { result ≡ open_fault args.now }
 {
     let invalid = !is_share(args.access, args.deny);
-    claim_arguments(invalid, &args.claim, opentype_asks(&args.opentype))
-        .or(claim_fault(&args.claim))
+    claim_arguments(invalid, &args.claim, opentype_asks(&args.opentype)).or(claim_fault(
+        &args.claim,
+    ))
 }
 
 // An EXCLUSIVE OPEN with this verifier made the file.
@@ -143,11 +144,7 @@ fn is_made_by(verifier: u64, row: Option<&FileRow>) -> bool
 
 // A file that is there isn't made again, unless by the same EXCLUSIVE OPEN; one that isn't there is made or missed.
 #[tactic(auto, unfolding(nm_rules::specs::Opens::name_refusal))]
-fn name_refusal(
-    opentype: &OpenType,
-    file: Option<u64>,
-    row: Option<&FileRow>,
-) -> Option<OpStatus>
+fn name_refusal(opentype: &OpenType, file: Option<u64>, row: Option<&FileRow>) -> Option<OpStatus>
     ensures { result ≡ name_refusal opentype.now file (option_copied row.entry) }
 {
     match opentype {
@@ -234,14 +231,16 @@ impl Tables {
             None => refuse_if(self.is_dir(file), OpStatus::IsDir),
             Some(name) => {
                 let child = self.row_of(self.tree.child(file, name.items()));
-                refuse_if(self.is_no_dir(file), OpStatus::NotDir)
-                    .or(refuse_if(is_dir(child), OpStatus::IsDir))
+                refuse_if(self.is_no_dir(file), OpStatus::NotDir).or(refuse_if(
+                    is_dir(child),
+                    OpStatus::IsDir,
+                ))
             }
         }
     }
 
     // A file that is there, or isn't.
-    fn name_stop(&self, file: u64, args: &OpenArgs) -> Option<OpStatus>
+    fn target_stop(&self, file: u64, args: &OpenArgs) -> Option<OpStatus>
         ensures { result ≡ name_refusal args.now.opentype (target self.now file args.now) (row_of self.now.tree.table (target self.now file args.now)) }
     {
         let target = self.target(file, &args.claim);
@@ -322,7 +321,7 @@ impl Tables {
         if let Some(status) = open_fault(args) {
             return Some(status);
         }
-        if let Some(status) = self.name_stop(file, args) {
+        if let Some(status) = self.target_stop(file, args) {
             return Some(status);
         }
         let opened = self.file_to_open(file, args);

@@ -7,7 +7,7 @@ use nm_rules::{Bytes, FileRow, HeldKind, HeldRow, HeldTable, Items, Memory, Open
 use std::alloc::Global;
 
 // The name of a file.
-#[tactic(auto, unfolding(nm_rules::specs::Contents::name_at))]
+#[tactic(auto, unfolding(nm_rules::specs::Contents::name_at, nm_rules::specs::Contents::file_at))]
 fn name_of(alloc: Global, files: &[FileRow], number: u64) -> Result<Bytes, Memory>
     ensures { IfOk result (λ name. name ≡ name_at number files.now) }
 {

@@ -124,7 +124,6 @@ impl Tables {
     }
 
     // Answers a call, and carries it out where nothing stops it.
-    #[tactic(auto, using(crate::proofs::OpeningLemmas::applied_same))]
     fn call(&mut self, call: &Call, verdict: Verdict) -> Result<Reply, Memory>
         ensures { IfOk result (λ r. Applied self.old (Asked call.now verdict) r self.new) }
     {
