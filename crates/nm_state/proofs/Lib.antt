@@ -1,2 +1,6 @@
+pub mod AppliedLemmas
+pub mod AttributeLemmas
+pub mod EditLemmas
 pub mod HolderLemmas
 pub mod OpeningLemmas
+pub mod PageLemmas

@@ -1,3 +1,5 @@
+pub mod Asked
 pub mod Listing
 pub mod Opening
+pub mod Pages
 pub mod State

@@ -1,27 +1,23 @@
 -- What an OPEN and a CLOSE that nothing stops leave of the tables.
-use Rattle.std.specs.Prelude.{◌≡◌, ℕ, ◌+◌, List, Option, Some, None}
+use Rattle.std.specs.Prelude.{◌≡◌, ◌<◌, ◌≤◌, ◌-◌, ◌^◌, ℕ}
 use Rattle.nm_rules.specs.Parties.{Party}
-use Rattle.nm_rules.specs.Files.{TreeNow, file_at, tree_after}
+use Rattle.nm_rules.specs.Contents.{TreeNow, TreeWord, file_at, size_limit, total_limit, total_size, tree_after}
 use Rattle.nm_rules.specs.Shares.{put_open, opens_after}
 use Rattle.nm_rules.specs.Shares.OpenWord.{Drop, DropOf}
-use Rattle.nm_rules.specs.Past.{claimed_name, opener}
+use Rattle.nm_rules.specs.Past.{claimed_name, opener, open_tree}
 use Rattle.nm_rules.specs.Seen.{Seen, after}
 use Rattle.nm_rules.specs.Answer.{answer_to}
-use Rattle.nm_rules.specs.Opens.{file_to_open}
+use Rattle.nm_rules.specs.Opens.{file_to_open, target}
 use Rattle.nm_rules.specs.declared.calls.Owner.{Owner}
 use Rattle.nm_rules.specs.declared.calls.Event.{Event}
 use Rattle.nm_rules.specs.declared.calls.Reply.{Reply}
-use Rattle.nm_rules.specs.declared.calls.OpenArgs.{OpenArgs}
-use Rattle.nm_rules.specs.declared.rows.FileRow.{FileRow}
+use Rattle.nm_rules.specs.declared.args.OpenArgs.{OpenArgs}
 use Rattle.nm_shares.specs.Rows.{row_to_take, last_after}
 
--- the file that an OPEN makes, where its name isn't there
-abbrev pub made_at : Option ℕ → TreeNow → List ℕ → Option FileRow
-made_at None tree name = Some (record { number = tree.last_file + 1; name = name })
-made_at (Some file) tree name = None
-
-unfoldable pub with_file : List ℕ → TreeNow → TreeNow
-with_file name tree = tree_after (made_at (file_at name tree.table) tree name) tree
+-- what an OPEN does to the tree: it makes its file, cuts it, or neither
+unfoldable pub open_word : Seen → ℕ → OpenArgs → TreeWord
+open_word s file args = open_tree (file_at (file_to_open s file args) s.tree.table) file (claimed_name args.claim) args.opentype
+    (target s file args) (file_to_open s file args)
 
 -- the open that an OPEN takes
 unfoldable pub after_taking : Seen → Owner → ℕ → ℕ → ℕ → Seen
@@ -30,10 +26,13 @@ after_taking s owner file access deny = record s {
   last = last_after s.last s.opens owner file;
 }
 
-unfoldable pub after_open : Seen → Party → OpenArgs → Seen
-after_open s party args = record (after_taking s (opener party args) (file_to_open s args) args.access args.deny) {
-  tree = with_file (claimed_name args.claim) s.tree;
-}
+-- the change of the tree
+unfoldable pub after_word : TreeWord → Seen → Seen
+after_word word s = record s { tree = tree_after word s.tree }
+
+unfoldable pub after_open : Seen → Party → ℕ → OpenArgs → Seen
+after_open s party file args =
+    after_taking (after_word (open_word s file args) s) (opener party args) (file_to_open s file args) args.access args.deny
 
 unfoldable pub after_drop : Seen → ℕ → Seen
 after_drop s counter = record s { opens = opens_after (Drop counter) s.opens }
@@ -45,3 +44,10 @@ after_end s party = record s { opens = opens_after (DropOf party) s.opens }
 pub record Applied (before : Seen) (event : Event) (reply : Reply) (new : Seen) : Type 0 where
   pub answer : reply ≡ answer_to before event
   pub tables : new ≡ after before event reply
+
+-- There is room for a file of so many bytes, in the numbers too.
+pub record HasRoom (tree : TreeNow) (size : ℕ) : Type 0 where
+  pub changes : tree.change < 2 ^ 63
+  pub files : tree.last_file < 2 ^ 63
+  pub fits : size ≤ size_limit
+  pub room : size ≤ total_limit - total_size tree.table

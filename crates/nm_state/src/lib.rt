@@ -1,13 +1,24 @@
 //! The state of one file system: what was asked of it has left files and opens, and the answer to the next event is read
-//! off these (RFC 7530, 16.2 and 16.16).
+//! off these (RFC 7530, 16).
 #![tactic(auto)]
 
+mod attributes;
+mod checks;
+mod data;
+#[cfg(test)]
+mod file_tests;
 mod holders;
+mod listing;
+mod names;
+mod opens;
+mod parts;
+mod setting;
 mod shown;
 mod state;
+#[cfg(test)]
+mod steps;
 mod tables;
 #[cfg(test)]
 mod tests;
-mod tree;
 
 pub use state::FsState;

@@ -1,13 +1,13 @@
 //! What is held, as it is shown.
 ghost use Rattle.std.specs.Prelude.{◌≡◌, IfOk, map};
-ghost use Rattle.nm_rules.specs.Files.{name_at};
+ghost use Rattle.nm_rules.specs.Contents.{name_at};
 ghost use Rattle.nm_rules.specs.Held.{held_row};
 
 use nm_rules::{Bytes, FileRow, HeldKind, HeldRow, HeldTable, Items, Memory, OpenRow};
 use std::alloc::Global;
 
 // The name of a file.
-#[tactic(auto, unfolding(nm_rules::specs::Files::name_at))]
+#[tactic(auto, unfolding(nm_rules::specs::Contents::name_at, nm_rules::specs::Contents::file_at))]
 fn name_of(alloc: Global, files: &[FileRow], number: u64) -> Result<Bytes, Memory>
     ensures { IfOk result (λ name. name ≡ name_at number files.now) }
 {

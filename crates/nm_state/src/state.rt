@@ -46,7 +46,7 @@ impl FsState {
     {
         Ok(FsState {
             alloc,
-            tables: Tables::new(alloc, fs, grants),
+            tables: Tables::new(alloc, fs, grants)?,
             spent: false,
         })
     }

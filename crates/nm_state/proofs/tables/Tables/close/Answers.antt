@@ -9,7 +9,7 @@ returns-in-Some c =
     rw c.reply.ensures (applied_refused c.args.self.now call c.args.verdict c.in-Some.status c.in-Some.ensures)
 
 pub drop_open-requires : goal.drop_open-requires
-drop_open-requires c = close_drops c.args.self.now c.args.caller c.args.file c.args.args.now c.args.verdict c.closed-id.result c.in_default.ensures c.closed-id.ensures
+drop_open-requires c = close_drops c.args.self.now c.args.args.now c.closed-id.result c.closed-id.ensures
 
 pub returns : goal.returns
 returns c =

@@ -1,4 +1,4 @@
-use Rattle.std.proofs.Common.{None, Some, refl, sym}
+use Rattle.std.proofs.Common.{None, Some, refl}
 use Rattle.nm_rules.specs.Opens.{open_checks}
 use Rattle.nm_rules.specs.declared.calls.Call.{Call}
 use Rattle.nm_rules.specs.declared.calls.Deed.TheVariants.{Open}
@@ -21,5 +21,5 @@ returns-in-Some-open_stop c =
 pub returns : goal.returns
 returns c =
     rw (c.reply-2.ensures, c.in_ok-open_file.ensures.after, c.in-Some.is)
-    (applied_open c.args.self.now c.in-Some.party c.args.file c.args.args.now c.args.verdict c.opened-opened.result
-    c.in_ok-open_file.ensures.rising c.in_default-open_stop.ensures (sym c.opened-opened.ensures))
+    (applied_open c.args.self.now c.in-Some.party c.args.file c.args.args.now c.args.verdict c.in_ok-opened.opened
+    c.in_ok-open_file.ensures.rising c.in_default-open_stop.ensures c.in_ok-opened.ensures)

@@ -21,5 +21,5 @@ returns-in-Some-open_stop c =
 pub returns : goal.returns
 returns c =
     rw (c.reply-2.ensures, c.in-Some.is)
-    (answered_open c.args.self.now c.in-Some.party c.args.file c.args.args.now c.args.verdict c.opened-opened.result
-    c.in_default-open_stop.ensures c.opened-opened.ensures)
+    (answered_open c.args.self.now c.in-Some.party c.args.file c.args.args.now c.args.verdict c.in_ok-opened.opened
+    c.in_default-open_stop.ensures c.in_ok-opened.ensures)

@@ -1,6 +1,0 @@
-use Rattle.std.proofs.Common.{◌≡◌, take}
-use Rattle.nm_state.proofs.tree.copy_files.Given as goal
-
--- the rows so far are copied
-abbrev pub invariant-loop-row : goal.invariant-loop-row
-invariant-loop-row l = l.copies ≡ take l.row-index l.files

@@ -1,0 +1,281 @@
+//! Short words for events on one file system, for tests. Each client is one letter.
+use crate::FsState;
+use nm_rules::{
+    AccessArgs, Bytes, Call, Claim, CloseArgs, CommitArgs, CreateArgs, CreateType, Deed, Event,
+    Fattr, FsNum, GetAttrArgs, Instance, Items, LookupArgs, OpStatus, OpenArgs, OpenType,
+    Principal, ReadArgs, ReadDirArgs, RemoveArgs, Reply, ReplyValue, SetAttrArgs, Stable, StateId,
+    StateRef, Verdict, WriteArgs,
+};
+use std::alloc::Global;
+use std::test::Fail;
+
+/// Whether an OPEN makes its file.
+#[derive(Clone, Copy)]
+pub enum How {
+    NoCreate,
+    Unchecked,
+    /// Unchecked, with a size.
+    Sized(u64),
+    Guarded,
+    Exclusive(u64),
+}
+
+/// What is asked.
+#[derive(Clone, Copy)]
+pub enum What<'a> {
+    /// By the owner `o`.
+    Open {
+        name: &'a [u8],
+        how: How,
+        access: u32,
+        deny: u32,
+    },
+    Close(StateId),
+    /// A directory of mode 0700.
+    MakeDir(&'a [u8]),
+    Remove(&'a [u8]),
+    Lookup(&'a [u8]),
+    Parent,
+    Access(u32),
+    /// Its size alone is asked.
+    Attributes,
+    Read {
+        stateid: StateRef,
+        offset: u64,
+        count: u32,
+    },
+    Write {
+        stateid: StateRef,
+        offset: u64,
+        data: &'a [u8],
+    },
+    Set {
+        stateid: StateRef,
+        words: &'a [u32],
+        values: &'a [u8],
+    },
+    /// Without attributes.
+    List {
+        cookie: u64,
+        maxcount: u32,
+    },
+    Commit,
+}
+
+/// What happens.
+#[derive(Clone, Copy)]
+pub enum Step<'a> {
+    /// A client asks, with that current file.
+    Ask(u8, u64, What<'a>),
+    End(u8),
+}
+
+/// The first run of a client.
+pub fn client(letter: u8) -> Result<Instance, Fail> {
+    start_of(letter, 7)
+}
+
+/// The run of a client with that verifier.
+pub fn start_of(letter: u8, verifier: u64) -> Result<Instance, Fail> {
+    let principal = Principal { flavor: 1, uid: 0 };
+    Ok(
+        Instance::make(&[letter], verifier, principal)
+            .ok()
+            .ok_or("the string is short")?,
+    )
+}
+
+/// The stateid of that counter in the file system.
+pub fn stateid(seqid: u32, counter: u64) -> StateId {
+    StateId {
+        seqid,
+        fs: 0,
+        counter,
+    }
+}
+
+/// An OPEN in the root.
+pub fn open(letter: u8, name: &[u8], how: How, access: u32, deny: u32) -> Step<'_> {
+    let what = What::Open {
+        name,
+        how,
+        access,
+        deny,
+    };
+    Step::Ask(letter, 1, what)
+}
+
+/// A CLOSE.
+pub fn close(letter: u8, file: u64, seqid: u32, counter: u64) -> Step<'static> {
+    Step::Ask(letter, file, What::Close(stateid(seqid, counter)))
+}
+
+fn fattr(alloc: Global, words: &[u32], values: &[u8]) -> Result<Fattr, Fail> {
+    Ok(Fattr {
+        words: Items::from_slice(alloc, words)?,
+        values: Bytes::from_slice(alloc, values)?,
+    })
+}
+
+fn opentype(alloc: Global, how: How) -> Result<OpenType, Fail> {
+    match how {
+        How::NoCreate => Ok(OpenType::NoCreate),
+        How::Unchecked => Ok(OpenType::Unchecked(fattr(alloc, &[], &[])?)),
+        How::Sized(size) => Ok(OpenType::Unchecked(fattr(alloc, &[16], &size.to_be_bytes())?)),
+        How::Guarded => Ok(OpenType::Guarded(fattr(alloc, &[], &[])?)),
+        How::Exclusive(verifier) => Ok(OpenType::Exclusive(verifier)),
+    }
+}
+
+fn open_deed(alloc: Global, name: &[u8], how: How, access: u32, deny: u32) -> Result<Deed, Fail> {
+    Ok(Deed::Open(OpenArgs {
+        seqid: 1,
+        access,
+        deny,
+        owner: Bytes::from_slice(alloc, b"o")?,
+        opentype: opentype(alloc, how)?,
+        claim: Claim::Null(Bytes::from_slice(alloc, name)?),
+    }))
+}
+
+fn make_dir(alloc: Global, name: &[u8]) -> Result<Deed, Fail> {
+    Ok(Deed::Create(CreateArgs {
+        kind: CreateType::Directory,
+        name: Bytes::from_slice(alloc, name)?,
+        attributes: fattr(alloc, &[0, 2], &[0, 0, 1, 0xc0])?,
+    }))
+}
+
+fn deed(alloc: Global, what: What<'_>) -> Result<Deed, Fail> {
+    match what {
+        What::Open {
+            name,
+            how,
+            access,
+            deny,
+        } => open_deed(alloc, name, how, access, deny),
+        What::Close(id) => Ok(Deed::Close(CloseArgs {
+            seqid: 2,
+            stateid: StateRef::Named(id),
+        })),
+        What::MakeDir(name) => make_dir(alloc, name),
+        What::Remove(name) => Ok(Deed::Remove(RemoveArgs {
+            name: Bytes::from_slice(alloc, name)?,
+        })),
+        What::Lookup(name) => Ok(Deed::Lookup(LookupArgs {
+            name: Bytes::from_slice(alloc, name)?,
+        })),
+        What::Parent => Ok(Deed::LookupP),
+        What::Access(access) => Ok(Deed::Access(AccessArgs { access })),
+        What::Attributes => Ok(Deed::GetAttr(GetAttrArgs {
+            words: Items::from_slice(alloc, &[16])?,
+        })),
+        _ => data_deed(alloc, what),
+    }
+}
+
+fn data_deed(alloc: Global, what: What<'_>) -> Result<Deed, Fail> {
+    match what {
+        What::Read {
+            stateid,
+            offset,
+            count,
+        } => Ok(Deed::Read(ReadArgs {
+            stateid,
+            offset,
+            count,
+        })),
+        What::Write {
+            stateid,
+            offset,
+            data,
+        } => Ok(Deed::Write(WriteArgs {
+            stateid,
+            offset,
+            stable: Stable::Unstable,
+            data: Bytes::from_slice(alloc, data)?,
+        })),
+        What::Set {
+            stateid,
+            words,
+            values,
+        } => Ok(Deed::SetAttr(SetAttrArgs {
+            stateid,
+            attributes: fattr(alloc, words, values)?,
+        })),
+        What::List { cookie, maxcount } => Ok(Deed::ReadDir(ReadDirArgs {
+            cookie,
+            verifier: 0,
+            dircount: 0,
+            maxcount,
+            words: Items::new(alloc),
+        })),
+        _ => Ok(Deed::Commit(CommitArgs {
+            offset: 0,
+            count: 0,
+        })),
+    }
+}
+
+/// The event.
+pub fn event(alloc: Global, step: Step<'_>) -> Result<Event, Fail> {
+    match step {
+        Step::End(letter) => Ok(Event::Ended(client(letter)?)),
+        Step::Ask(letter, file, what) => {
+            let call = Call {
+                caller: Some(client(letter)?),
+                file,
+                deed: deed(alloc, what)?,
+            };
+            Ok(Event::Asked(call, Verdict::Pass))
+        }
+    }
+}
+
+/// A file system, number 0, with no file but the root.
+pub fn no_files(alloc: Global) -> Result<FsState, Fail> {
+    let fs = FsNum::new(0).ok_or("0 is a file system")?;
+    Ok(FsState::new(alloc, fs, false)?)
+}
+
+// The reply to an event, which `answer` tells before.
+fn reply(state: &mut FsState, event: &Event) -> Result<Reply, Fail> {
+    let told = state.answer(event)?;
+    let reply = state.apply(event)?;
+    Ok((told == reply)
+        .then_some(reply)
+        .ok_or("it is answered as was told")?)
+}
+
+/// Carries these out.
+pub fn go(alloc: Global, state: &mut FsState, steps: &[Step<'_>]) -> Result<Vec<Reply>, Fail> {
+    let mut replies = Vec::new(alloc);
+    for step in steps {
+        let event = event(alloc, *step)?;
+        replies.push(reply(state, &event)?)?;
+    }
+    Ok(replies)
+}
+
+/// The replies to these, on a file system that has no file before.
+pub fn replies(alloc: Global, steps: &[Step<'_>]) -> Result<Vec<Reply>, Fail> {
+    let mut state = no_files(alloc)?;
+    go(alloc, &mut state, steps)
+}
+
+/// Their statuses.
+pub fn statuses(alloc: Global, steps: &[Step<'_>]) -> Result<Vec<OpStatus>, Fail> {
+    let mut statuses = Vec::new(alloc);
+    for reply in &replies(alloc, steps)? {
+        statuses.push(reply.status)?;
+    }
+    Ok(statuses)
+}
+
+/// The value of the last one.
+pub fn last_value(alloc: Global, steps: &[Step<'_>]) -> Result<ReplyValue, Fail> {
+    match replies(alloc, steps)?.pop() {
+        Some(reply) => Ok(reply.value),
+        None => Ok(ReplyValue::Nothing),
+    }
+}
