@@ -81,7 +81,7 @@ end_text false = codes "more"
 
 -- what was read: `HEX eof` or `HEX more`
 unfoldable pub read_text : ReadOk → List ℕ
-read_text ok = data_text ok.data ++ codes " " ++ end_text ok.eof
+read_text ok = data_text ok.«data» ++ codes " " ++ end_text ok.eof
 
 -- a name behind others
 unfoldable pub name_text : List ℕ → List ℕ
