@@ -143,8 +143,7 @@ hex_found word bytes e =
           let decoded = bytes_or_fault_ok (decode_of word) bytes h.1 in
           let ok = decode_of-ok word bytes decoded in
           let some : 2 ≤ length word = leb-true _ _ q.0 in
-          let limit : length word ≤ 2048 = leb-true _ _ q.1 in
-          (
+          let limit : length word ≤ 2048 = leb-true _ _ q.1 in (
             pairs_found 0 word bytes p.1 (sym (decode_of-even word ok.0) ∙ decoded),
             omega (arith, ok.2, some),
             omega (arith, ok.2, limit),

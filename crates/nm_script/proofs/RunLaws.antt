@@ -303,7 +303,7 @@ unfolding root_at
 root_found head verb f a =
     by_verb (IsAsked head) verb (codes "list") (f ∷ []) a _ _
     (made_found head (codes "list") (f ∷ []) (file_system_number head f) actions.List a
-      (λ fs e. let at = file_system_found head f fs e in (ap (λ (w : List ℕ). codes "list" ∷ w ∷ []) at.1, at.0)))
+    (λ fs e. let at = file_system_found head f fs e in (ap (λ (w : List ℕ). codes "list" ∷ w ∷ []) at.1, at.0)))
     (λ e. absurd cc)
 
 on_file_found : (head : Head) (verb f file : List ℕ) (a : Action) → file_at head verb f file ≡ Ok a → IsAsked head (verb ∷ f ∷ file ∷ []) a
@@ -312,10 +312,10 @@ on_file_found head verb f file a =
     let words : List (List ℕ) = f ∷ file ∷ [] in
     by_verb (IsAsked head) verb (codes "remove") words a _ _
     (made_found head (codes "remove") words (file_action head f file) actions.Remove a
-      (λ n e. let p = file_found head f file n e in (ap (λ (ws : List (List ℕ)). codes "remove" ∷ ws) p.0, p.1)))
+    (λ n e. let p = file_found head f file n e in (ap (λ (ws : List (List ℕ)). codes "remove" ∷ ws) p.0, p.1)))
     (by_verb (IsAsked head) verb (codes "mkdir") words a _ _
     (made_found head (codes "mkdir") words (file_action head f file) actions.MkDir a
-      (λ n e. let p = file_found head f file n e in (ap (λ (ws : List (List ℕ)). codes "mkdir" ∷ ws) p.0, p.1)))
+    (λ n e. let p = file_found head f file n e in (ap (λ (ws : List (List ℕ)). codes "mkdir" ∷ ws) p.0, p.1)))
     (λ e. absurd cc))
 
 on_close_found : (head : Head) (verb f file owner : List ℕ) (a : Action) → close_at head verb f file owner ≡ Ok a → IsAsked head (verb ∷ f ∷ file ∷ owner ∷ []) a
@@ -324,7 +324,7 @@ on_close_found head verb f file owner a =
     let words : List (List ℕ) = f ∷ file ∷ owner ∷ [] in
     by_verb (IsAsked head) verb (codes "close") words a _ _
     (made_found head (codes "close") words (close_action head f file owner) actions.Close a
-      (λ c e. let p = close_found head f file owner c e in (ap (λ (ws : List (List ℕ)). codes "close" ∷ ws) p.0, p.1)))
+    (λ c e. let p = close_found head f file owner c e in (ap (λ (ws : List (List ℕ)). codes "close" ∷ ws) p.0, p.1)))
     (λ e. absurd cc)
 
 on_size_found : (head : Head) (verb f file size_word owner : List ℕ) (a : Action) → size_at head verb f file size_word owner ≡ Ok a → IsAsked head (verb ∷ f ∷ file ∷ size_word ∷ owner ∷ []) a
@@ -333,7 +333,7 @@ on_size_found head verb f file size_word owner a =
     let words : List (List ℕ) = f ∷ file ∷ size_word ∷ owner ∷ [] in
     by_verb (IsAsked head) verb (codes "size") words a _ _
     (made_found head (codes "size") words (size_action head f file size_word owner) actions.Size a
-      (λ s e. let p = size_found head f file size_word owner s e in (ap (λ (ws : List (List ℕ)). codes "size" ∷ ws) p.0, p.1)))
+    (λ s e. let p = size_found head f file size_word owner s e in (ap (λ (ws : List (List ℕ)). codes "size" ∷ ws) p.0, p.1)))
     (λ e. absurd cc)
 
 module _ (head : Head) (verb f file first second owner : List ℕ) (a : Action) where
@@ -345,16 +345,16 @@ module _ (head : Head) (verb f file first second owner : List ℕ) (a : Action) 
   on_open_found =
       by_verb (IsAsked head) verb (codes "open") five a _ _
       (made_found head (codes "open") five (open_action head f file first second owner) actions.Open a
-        (λ o e. let p = open_found head f file first second owner o e in (ap (λ (ws : List (List ℕ)). codes "open" ∷ ws) p.0, p.1)))
+      (λ o e. let p = open_found head f file first second owner o e in (ap (λ (ws : List (List ℕ)). codes "open" ∷ ws) p.0, p.1)))
       (by_verb (IsAsked head) verb (codes "create") five a _ _
       (made_found head (codes "create") five (open_action head f file first second owner) actions.Create a
-        (λ o e. let p = open_found head f file first second owner o e in (ap (λ (ws : List (List ℕ)). codes "create" ∷ ws) p.0, p.1)))
+      (λ o e. let p = open_found head f file first second owner o e in (ap (λ (ws : List (List ℕ)). codes "create" ∷ ws) p.0, p.1)))
       (by_verb (IsAsked head) verb (codes "read") five a _ _
       (made_found head (codes "read") five (read_action head f file first second owner) actions.Read a
-        (λ r e. let p = read_found head f file first second owner r e in (ap (λ (ws : List (List ℕ)). codes "read" ∷ ws) p.0, p.1)))
+      (λ r e. let p = read_found head f file first second owner r e in (ap (λ (ws : List (List ℕ)). codes "read" ∷ ws) p.0, p.1)))
       (by_verb (IsAsked head) verb (codes "write") five a _ _
       (made_found head (codes "write") five (write_action head f file first second owner) actions.Write a
-        (λ w e. let p = write_found head f file first second owner w e in (ap (λ (ws : List (List ℕ)). codes "write" ∷ ws) p.0, p.1)))
+      (λ w e. let p = write_found head f file first second owner w e in (ap (λ (ws : List (List ℕ)). codes "write" ∷ ws) p.0, p.1)))
       (λ e. absurd cc))))
 
 action_found : (head : Head) (verb : List ℕ) (words : List (List ℕ)) (a : Action) → action_at head verb words ≡ Ok a → IsAsked head (verb ∷ words) a

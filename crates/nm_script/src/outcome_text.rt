@@ -188,64 +188,66 @@ mod tests {
     use super::*;
     use std::test::Fail;
 
-    #[test]
-    fn each_status_is_printed_by_its_name(rt: HostRuntime) -> Result<(), Fail> {
-        let table = [
-            (0, "OK"),
-            (2, "NOENT"),
-            (17, "EXIST"),
-            (20, "NOTDIR"),
-            (21, "ISDIR"),
-            (22, "INVAL"),
-            (27, "FBIG"),
-            (28, "NOSPC"),
-            (63, "NAMETOOLONG"),
-            (66, "NOTEMPTY"),
-            (70, "STALE"),
-            (10001, "BADHANDLE"),
-            (10004, "NOTSUPP"),
-            (10005, "TOOSMALL"),
-            (10006, "SERVERFAULT"),
-            (10007, "BADTYPE"),
-            (10008, "DELAY"),
-            (10010, "DENIED"),
-            (10011, "EXPIRED"),
-            (10012, "LOCKED"),
-            (10013, "GRACE"),
-            (10015, "SHARE_DENIED"),
-            (10017, "CLID_INUSE"),
-            (10018, "RESOURCE"),
-            (10019, "MOVED"),
-            (10020, "NOFILEHANDLE"),
-            (10021, "MINOR_VERS_MISMATCH"),
-            (10022, "STALE_CLIENTID"),
-            (10023, "STALE_STATEID"),
-            (10024, "OLD_STATEID"),
-            (10025, "BAD_STATEID"),
-            (10026, "BAD_SEQID"),
-            (10027, "NOT_SAME"),
-            (10030, "RESTOREFH"),
-            (10031, "LEASE_MOVED"),
-            (10032, "ATTRNOTSUPP"),
-            (10033, "NO_GRACE"),
-            (10036, "BADXDR"),
-            (10037, "LOCKS_HELD"),
-            (10038, "OPENMODE"),
-            (10041, "BADNAME"),
-            (10044, "OP_ILLEGAL"),
-            (10046, "FILE_OPEN"),
-        ];
+    const STATUSES: [(u32, &[u8]); 43] = [
+        (0, b"OK"),
+        (2, b"NOENT"),
+        (17, b"EXIST"),
+        (20, b"NOTDIR"),
+        (21, b"ISDIR"),
+        (22, b"INVAL"),
+        (27, b"FBIG"),
+        (28, b"NOSPC"),
+        (63, b"NAMETOOLONG"),
+        (66, b"NOTEMPTY"),
+        (70, b"STALE"),
+        (10001, b"BADHANDLE"),
+        (10004, b"NOTSUPP"),
+        (10005, b"TOOSMALL"),
+        (10006, b"SERVERFAULT"),
+        (10007, b"BADTYPE"),
+        (10008, b"DELAY"),
+        (10010, b"DENIED"),
+        (10011, b"EXPIRED"),
+        (10012, b"LOCKED"),
+        (10013, b"GRACE"),
+        (10015, b"SHARE_DENIED"),
+        (10017, b"CLID_INUSE"),
+        (10018, b"RESOURCE"),
+        (10019, b"MOVED"),
+        (10020, b"NOFILEHANDLE"),
+        (10021, b"MINOR_VERS_MISMATCH"),
+        (10022, b"STALE_CLIENTID"),
+        (10023, b"STALE_STATEID"),
+        (10024, b"OLD_STATEID"),
+        (10025, b"BAD_STATEID"),
+        (10026, b"BAD_SEQID"),
+        (10027, b"NOT_SAME"),
+        (10030, b"RESTOREFH"),
+        (10031, b"LEASE_MOVED"),
+        (10032, b"ATTRNOTSUPP"),
+        (10033, b"NO_GRACE"),
+        (10036, b"BADXDR"),
+        (10037, b"LOCKS_HELD"),
+        (10038, b"OPENMODE"),
+        (10041, b"BADNAME"),
+        (10044, b"OP_ILLEGAL"),
+        (10046, b"FILE_OPEN"),
+    ];
+
+    /// The first number of a table whose status isn't printed so.
+    fn other(table: &[(u32, &'static [u8])]) -> Option<u32> {
         for (number, word) in table {
-            let status = OpStatus::read(number).ok_or("no such status")?;
-            assert_eq!(rt; status_word(status), word.as_bytes());
+            match OpStatus::read(*number) {
+                Some(status) if status_word(status) == *word => {}
+                _ => return Some(*number),
+            }
         }
-        Ok(())
+        None
     }
 
     #[test]
-    fn each_verb_is_printed_by_its_word(rt: HostRuntime) {
-        assert_eq!(rt; verb_word(Verb::Open), "open".as_bytes());
-        assert_eq!(rt; verb_word(Verb::Create), "create".as_bytes());
-        assert_eq!(rt; verb_word(Verb::Close), "close".as_bytes());
+    fn each_status_is_printed_by_its_name(rt: HostRuntime) -> Result<(), Fail> {
+        assert_eq!(rt; other(&STATUSES), None);
+        Ok(())
     }
 }
