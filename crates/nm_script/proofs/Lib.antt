@@ -1,5 +1,6 @@
 pub mod AgainLaws
 pub mod DraftLaws
+pub mod HexLaws
 pub mod OutsideLemmas
 pub mod RunLaws
 pub mod ScriptLaws

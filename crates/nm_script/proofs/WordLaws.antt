@@ -161,7 +161,7 @@ not_space p none b here =
       | inr h ↦ h.0
     ]
 
-has_none : (p : ℕ → Bool) → p 32 ≡ false → (bytes : List ℕ) → list_all p bytes ≡ true → has_space bytes ≡ false
+pub has_none : (p : ℕ → Bool) → p 32 ≡ false → (bytes : List ℕ) → list_all p bytes ≡ true → has_space bytes ≡ false
 has_none p none [] all = refl
 has_none p none (b ∷ bytes) all =
     let h = and_true (p b) (list_all p bytes) all in

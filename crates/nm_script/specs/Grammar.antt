@@ -4,10 +4,15 @@ use Rattle.std.specs.Prelude.{◌≡◌, ℕ, ◌^◌, ◌<◌, ◌≤◌, Bool,
 use Rattle.std.specs.List.{list_any, list_all, join_with_byte}
 use Rattle.std.specs.Str.{bytes_eq}
 use Rattle.std.specs.Fmt.{decimal}
+use Rattle.hex.specs.Hex.{encode_lower}
 use Rattle.nm_rules.specs.declared.action.Action.{Action}
-use Rattle.nm_rules.specs.declared.action.Action.TheVariants.{Open, Create, Close}
+use Rattle.nm_rules.specs.declared.action.Action.TheVariants as actions
 use Rattle.nm_rules.specs.declared.action.OpenAction.{OpenAction}
 use Rattle.nm_rules.specs.declared.action.CloseAction.{CloseAction}
+use Rattle.nm_rules.specs.declared.action.ReadAction.{ReadAction}
+use Rattle.nm_rules.specs.declared.action.WriteAction.{WriteAction}
+use Rattle.nm_rules.specs.declared.action.SizeAction.{SizeAction}
+use Rattle.nm_rules.specs.declared.action.NameAction.{NameAction}
 use Rattle.nm_script.specs.declared.script.ServerRow.{ServerRow}
 use Rattle.nm_script.specs.declared.script.FsRow.{FsRow}
 use Rattle.nm_script.specs.declared.script.ClientRow.{ClientRow}
@@ -63,11 +68,34 @@ open_words head a = name_at (file_system_names head) a.fs ∷ a.file ∷ access_
 abbrev pub close_words : Head → CloseAction → List (List ℕ)
 close_words head a = name_at (file_system_names head) a.fs ∷ a.file ∷ a.owner ∷ []
 
--- open F FILE ACC DENY OWNER, create F FILE ACC DENY OWNER, close F FILE OWNER
+-- F FILE OFFSET COUNT OWNER
+abbrev pub read_words : Head → ReadAction → List (List ℕ)
+read_words head a = name_at (file_system_names head) a.fs ∷ a.file ∷ decimal a.offset ∷ decimal a.count ∷ a.owner ∷ []
+
+-- F FILE OFFSET HEX OWNER, where HEX is two digits 0 to 9, a to f for each byte
+abbrev pub write_words : Head → WriteAction → List (List ℕ)
+write_words head a = name_at (file_system_names head) a.fs ∷ a.file ∷ decimal a.offset ∷ encode_lower a.«data» ∷ a.owner ∷ []
+
+-- F FILE N OWNER
+abbrev pub size_words : Head → SizeAction → List (List ℕ)
+size_words head a = name_at (file_system_names head) a.fs ∷ a.file ∷ decimal a.size ∷ a.owner ∷ []
+
+-- F FILE
+abbrev pub file_words : Head → NameAction → List (List ℕ)
+file_words head a = name_at (file_system_names head) a.fs ∷ a.file ∷ []
+
+-- open F FILE ACC DENY OWNER, create F FILE ACC DENY OWNER, close F FILE OWNER, read F FILE OFFSET COUNT OWNER,
+-- write F FILE OFFSET HEX OWNER, size F FILE N OWNER, remove F FILE, mkdir F FILE, list F
 abbrev pub action_words : Head → Action → List (List ℕ)
-action_words head (Open a) = codes "open" ∷ open_words head a
-action_words head (Create a) = codes "create" ∷ open_words head a
-action_words head (Close a) = codes "close" ∷ close_words head a
+action_words head (actions.Open a) = codes "open" ∷ open_words head a
+action_words head (actions.Create a) = codes "create" ∷ open_words head a
+action_words head (actions.Close a) = codes "close" ∷ close_words head a
+action_words head (actions.Read a) = codes "read" ∷ read_words head a
+action_words head (actions.Write a) = codes "write" ∷ write_words head a
+action_words head (actions.Size a) = codes "size" ∷ size_words head a
+action_words head (actions.Remove a) = codes "remove" ∷ file_words head a
+action_words head (actions.MkDir a) = codes "mkdir" ∷ file_words head a
+action_words head (actions.List fs) = codes "list" ∷ name_at (file_system_names head) fs ∷ []
 
 -- VERB F
 abbrev pub fs_words : Head → List ℕ → ℕ → List (List ℕ)
@@ -174,10 +202,46 @@ pub record IsClose (head : Head) (a : CloseAction) : Type 0 where
   pub file : IsFileName a.file
   pub owner : IsName a.owner
 
+-- the same with a place in the file, and a count of at most 65,536 bytes
+pub record IsRead (head : Head) (a : ReadAction) : Type 0 where
+  pub fs : a.fs < length head.file_systems
+  pub file : IsFileName a.file
+  pub offset : a.offset < 2 ^ 64
+  pub count : a.count ≤ 65536
+  pub owner : IsName a.owner
+
+-- the same with 1 to 1,024 bytes in place of a count
+pub record IsWrite (head : Head) (a : WriteAction) : Type 0 where
+  pub fs : a.fs < length head.file_systems
+  pub file : IsFileName a.file
+  pub offset : a.offset < 2 ^ 64
+  pub some : 1 ≤ length a.«data»
+  pub limit : length a.«data» ≤ 1024
+  pub bytes : All (λ b. b < 256) a.«data»
+  pub owner : IsName a.owner
+
+-- the same with a size alone
+pub record IsSize (head : Head) (a : SizeAction) : Type 0 where
+  pub fs : a.fs < length head.file_systems
+  pub file : IsFileName a.file
+  pub size : a.size < 2 ^ 64
+  pub owner : IsName a.owner
+
+-- a file system of the head, and a file's name
+pub record IsFile (head : Head) (a : NameAction) : Type 0 where
+  pub fs : a.fs < length head.file_systems
+  pub file : IsFileName a.file
+
 abbrev pub IsAction : Head → Action → Type 0
-IsAction head (Open a) = IsOpen head a
-IsAction head (Create a) = IsOpen head a
-IsAction head (Close a) = IsClose head a
+IsAction head (actions.Open a) = IsOpen head a
+IsAction head (actions.Create a) = IsOpen head a
+IsAction head (actions.Close a) = IsClose head a
+IsAction head (actions.Read a) = IsRead head a
+IsAction head (actions.Write a) = IsWrite head a
+IsAction head (actions.Size a) = IsSize head a
+IsAction head (actions.Remove a) = IsFile head a
+IsAction head (actions.MkDir a) = IsFile head a
+IsAction head (actions.List fs) = fs < length head.file_systems
 
 -- the client, the file system and the server are of the head
 abbrev pub IsRun : Head → Line → Type 0

@@ -3,9 +3,13 @@ use Rattle.std.specs.Prelude.{◌≡◌, ℕ, ◌+◌, ◌^◌, Bool, true, fals
 use Rattle.std.specs.List.{list_any, onto_first}
 use Rattle.std.specs.Str.{bytes_eq}
 use Rattle.nm_rules.specs.declared.action.Action.{Action}
-use Rattle.nm_rules.specs.declared.action.Action.TheVariants.{Open, Create, Close}
+use Rattle.nm_rules.specs.declared.action.Action.TheVariants as actions
 use Rattle.nm_rules.specs.declared.action.OpenAction.{OpenAction}
 use Rattle.nm_rules.specs.declared.action.CloseAction.{CloseAction}
+use Rattle.nm_rules.specs.declared.action.ReadAction.{ReadAction}
+use Rattle.nm_rules.specs.declared.action.WriteAction.{WriteAction}
+use Rattle.nm_rules.specs.declared.action.SizeAction.{SizeAction}
+use Rattle.nm_rules.specs.declared.action.NameAction.{NameAction}
 use Rattle.nm_script.specs.declared.script.Head.{Head}
 use Rattle.nm_script.specs.declared.script.Line.{Line}
 use Rattle.nm_script.specs.declared.script.Line.TheVariants.{Do, Finish, Move, Freeze, Abandon, Commit, Settle, Shift, Show}
@@ -19,7 +23,7 @@ use Rattle.nm_script.specs.declared.order.Kind.{Kind}
 use Rattle.nm_script.specs.declared.order.Kind.TheVariants as kind
 use Rattle.nm_script.specs.declared.fault.LineFault.{LineFault}
 use Rattle.nm_script.specs.declared.fault.LineFault.TheVariants as line_faults
-use Rattle.nm_script.specs.Words.{words_of, has_empty_word, is_printable, says_something, is_name, is_file_name, number_at, access_at, deny_at}
+use Rattle.nm_script.specs.Words.{words_of, has_empty_word, is_printable, says_something, is_name, is_file_name, number_at, access_at, deny_at, bytes_at}
 
 infixl 10 ◌>>=◌
 abbrev pub ◌>>=◌ : {A B E : Type 0} → Result A E → (A → Result B E) → Result B E
@@ -126,21 +130,90 @@ close_action head f file owner = do
   fs ← file_system_number head f
   if is_file_name file && is_name owner then Ok (record { fs = fs; file = file; owner = owner }) else Err why.Name
 
-unfoldable pub action_at : Head → List ℕ → List (List ℕ) → Result Action Why
-action_at head verb (f ∷ file ∷ access_word ∷ deny_word ∷ owner ∷ []) =
-    if bytes_eq verb (codes "open") then (open_action head f file access_word deny_word owner >>= λ a. Ok (Open a)) else
-    if bytes_eq verb (codes "create") then (open_action head f file access_word deny_word owner >>= λ a. Ok (Create a)) else
+-- how many bytes a read asks: at most 65,536
+unfoldable pub count_at : List ℕ → Result ℕ Why
+count_at word = do
+  count ← number_at word
+  if nat_le count 65536 then Ok count else Err why.Number
+
+-- The file system, the file and the owner are judged as those of a close. The numbers come last.
+unfoldable pub read_action : Head → List ℕ → List ℕ → List ℕ → List ℕ → List ℕ → Result ReadAction Why
+read_action head f file offset_word count_word owner = do
+  names ← close_action head f file owner
+  offset ← number_at offset_word
+  count ← count_at count_word
+  Ok (record { fs = names.fs; file = names.file; offset = offset; count = count; owner = names.owner })
+
+unfoldable pub write_action : Head → List ℕ → List ℕ → List ℕ → List ℕ → List ℕ → Result WriteAction Why
+write_action head f file offset_word hex owner = do
+  names ← close_action head f file owner
+  offset ← number_at offset_word
+  bytes ← bytes_at hex
+  Ok (record { fs = names.fs; file = names.file; offset = offset; «data» = bytes; owner = names.owner })
+
+unfoldable pub size_action : Head → List ℕ → List ℕ → List ℕ → List ℕ → Result SizeAction Why
+size_action head f file size_word owner = do
+  names ← close_action head f file owner
+  size ← number_at size_word
+  Ok (record { fs = names.fs; file = names.file; size = size; owner = names.owner })
+
+unfoldable pub file_action : Head → List ℕ → List ℕ → Result NameAction Why
+file_action head f file = do
+  fs ← file_system_number head f
+  if is_file_name file then Ok (record { fs = fs; file = file }) else Err why.Name
+
+-- `VERB F`
+unfoldable pub root_at : Head → List ℕ → List ℕ → Result Action Why
+root_at head verb f =
+    if bytes_eq verb (codes "list") then (file_system_number head f >>= λ fs. Ok (actions.List fs)) else Err why.Word
+
+-- `VERB F FILE`
+unfoldable pub file_at : Head → List ℕ → List ℕ → List ℕ → Result Action Why
+file_at head verb f file =
+    if bytes_eq verb (codes "remove") then (file_action head f file >>= λ a. Ok (actions.Remove a)) else
+    if bytes_eq verb (codes "mkdir") then (file_action head f file >>= λ a. Ok (actions.MkDir a)) else Err why.Word
+
+-- `VERB F FILE OWNER`
+unfoldable pub close_at : Head → List ℕ → List ℕ → List ℕ → List ℕ → Result Action Why
+close_at head verb f file owner =
+    if bytes_eq verb (codes "close") then (close_action head f file owner >>= λ a. Ok (actions.Close a)) else Err why.Word
+
+-- `VERB F FILE N OWNER`
+unfoldable pub size_at : Head → List ℕ → List ℕ → List ℕ → List ℕ → List ℕ → Result Action Why
+size_at head verb f file size_word owner =
+    if bytes_eq verb (codes "size") then (size_action head f file size_word owner >>= λ a. Ok (actions.Size a)) else
     Err why.Word
-action_at head verb (f ∷ file ∷ owner ∷ []) =
-    if bytes_eq verb (codes "close") then (close_action head f file owner >>= λ a. Ok (Close a)) else Err why.Word
+
+-- `VERB F FILE` with two words and the owner behind it
+unfoldable pub open_at : Head → List ℕ → List ℕ → List ℕ → List ℕ → List ℕ → List ℕ → Result Action Why
+open_at head verb f file first second owner =
+    if bytes_eq verb (codes "open") then (open_action head f file first second owner >>= λ a. Ok (actions.Open a)) else
+    if bytes_eq verb (codes "create") then (open_action head f file first second owner >>= λ a. Ok (actions.Create a)) else
+    if bytes_eq verb (codes "read") then (read_action head f file first second owner >>= λ a. Ok (actions.Read a)) else
+    if bytes_eq verb (codes "write") then (write_action head f file first second owner >>= λ a. Ok (actions.Write a)) else
+    Err why.Word
+
+unfoldable pub action_at : Head → List ℕ → List (List ℕ) → Result Action Why
+action_at head verb (f ∷ []) = root_at head verb f
+action_at head verb (f ∷ file ∷ []) = file_at head verb f file
+action_at head verb (f ∷ file ∷ owner ∷ []) = close_at head verb f file owner
+action_at head verb (f ∷ file ∷ size_word ∷ owner ∷ []) = size_at head verb f file size_word owner
+action_at head verb (f ∷ file ∷ first ∷ second ∷ owner ∷ []) = open_at head verb f file first second owner
 action_at head verb _ = Err why.Word
+
+-- a fault of the words comes before one of the client's name, and that before one of the numbers
+unfoldable pub first_fault : Why → Result ℕ Why → Why
+first_fault why.Word client = why.Word
+first_fault fault (Ok client) = fault
+first_fault fault (Err name) = name
+
+abbrev pub done_by : Result ℕ Why → Result Action Why → Result Line Why
+done_by client (Ok action) = client >>= λ number. Ok (Do number action)
+done_by client (Err fault) = Err (first_fault fault client)
 
 -- `do C ACTION`
 unfoldable pub action_line : Head → List ℕ → List ℕ → List (List ℕ) → Result Line Why
-action_line head c verb words = do
-  action ← action_at head verb words
-  client ← client_number head c
-  Ok (Do client action)
+action_line head c verb words = done_by (client_number head c) (action_at head verb words)
 
 -- `do C finish`
 unfoldable pub finish_line : Head → List ℕ → List ℕ → Result Line Why

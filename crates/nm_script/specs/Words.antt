@@ -4,6 +4,8 @@ use Rattle.std.specs.Char.{is_ascii_alphanumeric, is_ascii_digit}
 use Rattle.std.specs.List.{list_all, list_any, slice_split}
 use Rattle.std.specs.Option.{option_and_then}
 use Rattle.std.specs.Str.{bytes_eq}
+use Rattle.hex.specs.Hex.{decode_of}
+use Rattle.hex.specs.declared.error.FromHexError.{FromHexError}
 use Rattle.nm_script.specs.declared.script.Why.{Why}
 use Rattle.nm_script.specs.declared.script.Why.TheVariants.{Word, Number}
 
@@ -75,3 +77,22 @@ access_at word =
 -- the same of others, or none of it
 unfoldable pub deny_at : List ℕ → Result ℕ Why
 deny_at word = if bytes_eq word (codes "none") then Ok 0 else access_at word
+
+-- a hexadecimal digit, 0 to 9 or a to f
+unfoldable pub is_small_digit : ℕ → Bool
+is_small_digit b = is_ascii_digit b || (nat_le 97 b && nat_le b 102)
+
+abbrev pub are_small_digits : List ℕ → Bool
+are_small_digits word = list_all is_small_digit word
+
+-- 2 to 2,048 of them
+unfoldable pub is_hex : List ℕ → Bool
+is_hex word = nat_le 2 (length word) && nat_le (length word) 2048 && are_small_digits word
+
+abbrev pub bytes_or_fault : Result (List ℕ) FromHexError → Result (List ℕ) Why
+bytes_or_fault (Ok bytes) = Ok bytes
+bytes_or_fault (Err _) = Err Number
+
+-- the bytes that so many digits spell, two of them a byte
+unfoldable pub bytes_at : List ℕ → Result (List ℕ) Why
+bytes_at word = if is_hex word then bytes_or_fault (decode_of word) else Err Number

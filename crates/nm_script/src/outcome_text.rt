@@ -1,11 +1,11 @@
 //! The printed text of what clients were told.
-ghost use Rattle.std.specs.Prelude.{◌≡◌, ◌++◌, OnOk, OnErr};
-ghost use Rattle.nm_script.specs.OutcomeText.{status_text, verb_text, told_text, outcome_text, idle_text};
+ghost use Rattle.std.specs.Prelude.{◌≡◌, ◌++◌, flat_map, OnOk, OnErr};
+ghost use Rattle.nm_script.specs.OutcomeText.{status_text, verb_text, data_text, end_text, read_text, name_text, told_text, outcome_text, idle_text};
 ghost use Rattle.nm_script.specs.Writing.{Stands};
 
-use crate::writing::append;
+use crate::writing::{append, append_number};
 use crate::{IdleRow, OutcomeRow, Told};
-use nm_rules::{Memory, OpStatus, Verb};
+use nm_rules::{Bytes, Memory, OpStatus, ReadOk, Verb};
 
 // The printed word of a status.
 #[tactic(auto, unfolding(crate::specs::OutcomeText::status_text))]
@@ -68,19 +68,88 @@ fn verb_word(verb: Verb) -> &'static [u8]
         Verb::Open => b"open",
         Verb::Create => b"create",
         Verb::Close => b"close",
+        Verb::Read => b"read",
+        Verb::Write => b"write",
+        Verb::Size => b"size",
+        Verb::Remove => b"remove",
+        Verb::MkDir => b"mkdir",
+        Verb::List => b"list",
     }
 }
 
+// The bytes in hexadecimal digits, or `-` where there are none.
+#[tactic(auto, using(crate::proofs::TextLemmas::stands_still), unfolding(crate::specs::OutcomeText::data_text))]
+fn append_data(out: &mut Vec<u8>, bytes: &[u8]) -> Result<(), Memory>
+    ensures ok { OnOk result (out.new.items ≡ out.old.items ++ data_text bytes.now) }
+    ensures err { OnErr result (Stands out.old.items out.new.items) }
+{
+    if bytes.is_empty() {
+        return append(out, b"-");
+    }
+    let digits = hex::encode(*out.allocator(), bytes)?;
+    append(out, digits.as_bytes())
+}
+
+// Whether a file ends with the bytes that were read.
+#[tactic(auto, unfolding(crate::specs::OutcomeText::end_text))]
+fn end_word(eof: bool) -> &'static [u8]
+    ensures { result.now ≡ end_text eof }
+{
+    if eof { b"eof" } else { b"more" }
+}
+
+#[tactic(auto, using(crate::proofs::TextLemmas::stands_more), unfolding(crate::specs::OutcomeText::read_text))]
+fn append_read(out: &mut Vec<u8>, ok: &ReadOk) -> Result<(), Memory>
+    ensures ok { OnOk result (out.new.items ≡ out.old.items ++ read_text ok.now) }
+    ensures err { OnErr result (Stands out.old.items out.new.items) }
+{
+    append_data(out, ok.data.items())?;
+    append(out, b" ")?;
+    append(out, end_word(ok.eof))
+}
+
+#[tactic(auto, using(crate::proofs::TextLemmas::stands_more), unfolding(crate::specs::OutcomeText::name_text))]
+fn append_name(out: &mut Vec<u8>, name: &[u8]) -> Result<(), Memory>
+    ensures ok { OnOk result (out.new.items ≡ out.old.items ++ name_text name.now) }
+    ensures err { OnErr result (Stands out.old.items out.new.items) }
+{
+    append(out, b" ")?;
+    append(out, name)
+}
+
+#[tactic(auto, using(crate::proofs::TextLemmas::stands_more))]
+fn append_listed(out: &mut Vec<u8>, names: &[Bytes]) -> Result<(), Memory>
+    ensures ok { OnOk result (out.new.items ≡ out.old.items ++ flat_map name_text names.now) }
+    ensures err { OnErr result (Stands out.old.items out.new.items) }
+{
+    for name in names {
+        append_name(out, name.items())?;
+    }
+    Ok(())
+}
+
 #[tactic(auto, using(crate::proofs::TextLemmas::stands_more), unfolding(crate::specs::OutcomeText::told_text))]
-fn append_told(out: &mut Vec<u8>, told: Told) -> Result<(), Memory>
-    ensures ok { OnOk result (out.new.items ≡ out.old.items ++ told_text told) }
+fn append_told(out: &mut Vec<u8>, told: &Told) -> Result<(), Memory>
+    ensures ok { OnOk result (out.new.items ≡ out.old.items ++ told_text told.now) }
     ensures err { OnErr result (Stands out.old.items out.new.items) }
 {
     match told {
-        Told::Answered(status) => append(out, status_word(status)),
+        Told::Answered(status) => append(out, status_word(*status)),
+        Told::Wrote(count) => {
+            append(out, b"OK ")?;
+            append_number(out, *count as u64)
+        }
+        Told::Read(ok) => {
+            append(out, b"OK ")?;
+            append_read(out, ok)
+        }
+        Told::Listed(names) => {
+            append(out, b"OK")?;
+            append_listed(out, names.items())
+        }
         Told::Refused(status) => {
             append(out, b"REFUSED ")?;
-            append(out, status_word(status))
+            append(out, status_word(*status))
         }
         Told::NoState => append(out, b"NOSTATE"),
         Told::Busy => append(out, b"BUSY"),
@@ -99,7 +168,7 @@ pub(crate) fn append_outcome(out: &mut Vec<u8>, row: &OutcomeRow) -> Result<(), 
     append(out, b" ")?;
     append(out, verb_word(row.verb))?;
     append(out, b" ")?;
-    append_told(out, row.told)?;
+    append_told(out, &row.told)?;
     append(out, b"\n")
 }
 
@@ -119,64 +188,66 @@ mod tests {
     use super::*;
     use std::test::Fail;
 
-    #[test]
-    fn each_status_is_printed_by_its_name(rt: HostRuntime) -> Result<(), Fail> {
-        let table = [
-            (0, "OK"),
-            (2, "NOENT"),
-            (17, "EXIST"),
-            (20, "NOTDIR"),
-            (21, "ISDIR"),
-            (22, "INVAL"),
-            (27, "FBIG"),
-            (28, "NOSPC"),
-            (63, "NAMETOOLONG"),
-            (66, "NOTEMPTY"),
-            (70, "STALE"),
-            (10001, "BADHANDLE"),
-            (10004, "NOTSUPP"),
-            (10005, "TOOSMALL"),
-            (10006, "SERVERFAULT"),
-            (10007, "BADTYPE"),
-            (10008, "DELAY"),
-            (10010, "DENIED"),
-            (10011, "EXPIRED"),
-            (10012, "LOCKED"),
-            (10013, "GRACE"),
-            (10015, "SHARE_DENIED"),
-            (10017, "CLID_INUSE"),
-            (10018, "RESOURCE"),
-            (10019, "MOVED"),
-            (10020, "NOFILEHANDLE"),
-            (10021, "MINOR_VERS_MISMATCH"),
-            (10022, "STALE_CLIENTID"),
-            (10023, "STALE_STATEID"),
-            (10024, "OLD_STATEID"),
-            (10025, "BAD_STATEID"),
-            (10026, "BAD_SEQID"),
-            (10027, "NOT_SAME"),
-            (10030, "RESTOREFH"),
-            (10031, "LEASE_MOVED"),
-            (10032, "ATTRNOTSUPP"),
-            (10033, "NO_GRACE"),
-            (10036, "BADXDR"),
-            (10037, "LOCKS_HELD"),
-            (10038, "OPENMODE"),
-            (10041, "BADNAME"),
-            (10044, "OP_ILLEGAL"),
-            (10046, "FILE_OPEN"),
-        ];
+    const STATUSES: [(u32, &[u8]); 43] = [
+        (0, b"OK"),
+        (2, b"NOENT"),
+        (17, b"EXIST"),
+        (20, b"NOTDIR"),
+        (21, b"ISDIR"),
+        (22, b"INVAL"),
+        (27, b"FBIG"),
+        (28, b"NOSPC"),
+        (63, b"NAMETOOLONG"),
+        (66, b"NOTEMPTY"),
+        (70, b"STALE"),
+        (10001, b"BADHANDLE"),
+        (10004, b"NOTSUPP"),
+        (10005, b"TOOSMALL"),
+        (10006, b"SERVERFAULT"),
+        (10007, b"BADTYPE"),
+        (10008, b"DELAY"),
+        (10010, b"DENIED"),
+        (10011, b"EXPIRED"),
+        (10012, b"LOCKED"),
+        (10013, b"GRACE"),
+        (10015, b"SHARE_DENIED"),
+        (10017, b"CLID_INUSE"),
+        (10018, b"RESOURCE"),
+        (10019, b"MOVED"),
+        (10020, b"NOFILEHANDLE"),
+        (10021, b"MINOR_VERS_MISMATCH"),
+        (10022, b"STALE_CLIENTID"),
+        (10023, b"STALE_STATEID"),
+        (10024, b"OLD_STATEID"),
+        (10025, b"BAD_STATEID"),
+        (10026, b"BAD_SEQID"),
+        (10027, b"NOT_SAME"),
+        (10030, b"RESTOREFH"),
+        (10031, b"LEASE_MOVED"),
+        (10032, b"ATTRNOTSUPP"),
+        (10033, b"NO_GRACE"),
+        (10036, b"BADXDR"),
+        (10037, b"LOCKS_HELD"),
+        (10038, b"OPENMODE"),
+        (10041, b"BADNAME"),
+        (10044, b"OP_ILLEGAL"),
+        (10046, b"FILE_OPEN"),
+    ];
+
+    /// The first number of a table whose status isn't printed so.
+    fn other(table: &[(u32, &'static [u8])]) -> Option<u32> {
         for (number, word) in table {
-            let status = OpStatus::read(number).ok_or("no such status")?;
-            assert_eq!(rt; status_word(status), word.as_bytes());
+            match OpStatus::read(*number) {
+                Some(status) if status_word(status) == *word => {}
+                _ => return Some(*number),
+            }
         }
-        Ok(())
+        None
     }
 
     #[test]
-    fn each_verb_is_printed_by_its_word(rt: HostRuntime) {
-        assert_eq!(rt; verb_word(Verb::Open), "open".as_bytes());
-        assert_eq!(rt; verb_word(Verb::Create), "create".as_bytes());
-        assert_eq!(rt; verb_word(Verb::Close), "close".as_bytes());
+    fn each_status_is_printed_by_its_name(rt: HostRuntime) -> Result<(), Fail> {
+        assert_eq!(rt; other(&STATUSES), None);
+        Ok(())
     }
 }

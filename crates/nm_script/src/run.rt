@@ -5,9 +5,11 @@ ghost use Rattle.nm_script.specs.Reading.{Gives};
 
 use crate::fault::LineFault;
 use crate::names::{client_number, file_system_number, server_number};
-use crate::words::{access, deny, is_file_name, is_name, is_word};
+use crate::words::{access, bytes, count, deny, is_file_name, is_name, is_word, number};
 use crate::{Head, Line, Why};
-use nm_rules::{Action, Bytes, CloseAction, OpenAction};
+use nm_rules::{
+    Action, Bytes, CloseAction, NameAction, OpenAction, ReadAction, SizeAction, WriteAction,
+};
 use std::alloc::Global;
 
 /// `F FILE ACC DENY OWNER`. The keywords are judged before the names.
@@ -60,34 +62,228 @@ fn close_action(
     })
 }
 
+/// `F FILE OFFSET COUNT OWNER`. The names are judged before the numbers.
+#[tactic(auto, unfolding(crate::specs::Reading::read_action))]
+fn read_action(
+    alloc: Global,
+    head: &Head,
+    fs: &[u8],
+    file: &[u8],
+    offset_word: &[u8],
+    count_word: &[u8],
+    owner: &[u8],
+) -> Result<ReadAction, LineFault>
+    ensures { Gives result (spec.read_action head.now fs.now file.now offset_word.now count_word.now owner.now) }
+{
+    let CloseAction { fs, file, owner } = close_action(alloc, head, fs, file, owner)?;
+    let offset = number(offset_word)?;
+    let count = count(count_word)?;
+    Ok(ReadAction {
+        fs,
+        file,
+        offset,
+        count,
+        owner,
+    })
+}
+
+/// `F FILE OFFSET HEX OWNER`. The names are judged before the numbers.
+#[tactic(auto, unfolding(crate::specs::Reading::write_action))]
+fn write_action(
+    alloc: Global,
+    head: &Head,
+    fs: &[u8],
+    file: &[u8],
+    offset_word: &[u8],
+    hex: &[u8],
+    owner: &[u8],
+) -> Result<WriteAction, LineFault>
+    ensures { Gives result (spec.write_action head.now fs.now file.now offset_word.now hex.now owner.now) }
+{
+    let CloseAction { fs, file, owner } = close_action(alloc, head, fs, file, owner)?;
+    let offset = number(offset_word)?;
+    let data = bytes(alloc, hex)?;
+    Ok(WriteAction {
+        fs,
+        file,
+        offset,
+        data,
+        owner,
+    })
+}
+
+/// `F FILE N OWNER`. The names are judged before the number.
+#[tactic(auto, unfolding(crate::specs::Reading::size_action))]
+fn size_action(
+    alloc: Global,
+    head: &Head,
+    fs: &[u8],
+    file: &[u8],
+    size_word: &[u8],
+    owner: &[u8],
+) -> Result<SizeAction, LineFault>
+    ensures { Gives result (spec.size_action head.now fs.now file.now size_word.now owner.now) }
+{
+    let CloseAction { fs, file, owner } = close_action(alloc, head, fs, file, owner)?;
+    let size = number(size_word)?;
+    Ok(SizeAction {
+        fs,
+        file,
+        size,
+        owner,
+    })
+}
+
+/// `F FILE`.
+#[tactic(auto, unfolding(crate::specs::Reading::file_action))]
+fn file_action(alloc: Global, head: &Head, fs: &[u8], file: &[u8]) -> Result<NameAction, LineFault>
+    ensures { Gives result (spec.file_action head.now fs.now file.now) }
+{
+    let fs = file_system_number(head, fs)?;
+    if !is_file_name(file) {
+        return Err(LineFault::Bad(Why::Name));
+    }
+    Ok(NameAction {
+        fs,
+        file: Bytes::from_slice(alloc, file)?,
+    })
+}
+
+/// `list F`.
+#[tactic(auto, unfolding(crate::specs::Reading::root_at))]
+fn on_root(head: &Head, verb: &[u8], fs: &[u8]) -> Result<Action, Why>
+    ensures { result ≡ spec.root_at head.now verb.now fs.now }
+{
+    if !is_word(verb, b"list") {
+        return Err(Why::Word);
+    }
+    Ok(Action::List(file_system_number(head, fs)?))
+}
+
+/// `remove F FILE` or `mkdir F FILE`.
+#[tactic(auto, unfolding(crate::specs::Reading::file_at))]
+fn on_file(
+    alloc: Global,
+    head: &Head,
+    verb: &[u8],
+    fs: &[u8],
+    file: &[u8],
+) -> Result<Action, LineFault>
+    ensures { Gives result (spec.file_at head.now verb.now fs.now file.now) }
+{
+    if is_word(verb, b"remove") {
+        return Ok(Action::Remove(file_action(alloc, head, fs, file)?));
+    }
+    if is_word(verb, b"mkdir") {
+        return Ok(Action::MkDir(file_action(alloc, head, fs, file)?));
+    }
+    Err(LineFault::Bad(Why::Word))
+}
+
+/// `close F FILE OWNER`.
+#[tactic(auto, unfolding(crate::specs::Reading::close_at))]
+fn close(
+    alloc: Global,
+    head: &Head,
+    verb: &[u8],
+    fs: &[u8],
+    file: &[u8],
+    owner: &[u8],
+) -> Result<Action, LineFault>
+    ensures { Gives result (spec.close_at head.now verb.now fs.now file.now owner.now) }
+{
+    if !is_word(verb, b"close") {
+        return Err(LineFault::Bad(Why::Word));
+    }
+    Ok(Action::Close(close_action(alloc, head, fs, file, owner)?))
+}
+
+/// `size F FILE N OWNER`.
+#[tactic(auto, unfolding(crate::specs::Reading::size_at))]
+fn set_size(
+    alloc: Global,
+    head: &Head,
+    verb: &[u8],
+    fs: &[u8],
+    file: &[u8],
+    size: &[u8],
+    owner: &[u8],
+) -> Result<Action, LineFault>
+    ensures { Gives result (spec.size_at head.now verb.now fs.now file.now size.now owner.now) }
+{
+    if !is_word(verb, b"size") {
+        return Err(LineFault::Bad(Why::Word));
+    }
+    let size = size_action(alloc, head, fs, file, size, owner)?;
+    Ok(Action::Size(size))
+}
+
+/// `open F FILE ACC DENY OWNER`, the same with `create`, `read F FILE OFFSET COUNT OWNER` or
+/// `write F FILE OFFSET HEX OWNER`.
+#[tactic(auto, unfolding(crate::specs::Reading::open_at))]
+fn on_open(
+    alloc: Global,
+    head: &Head,
+    verb: &[u8],
+    fs: &[u8],
+    file: &[u8],
+    first: &[u8],
+    second: &[u8],
+    owner: &[u8],
+) -> Result<Action, LineFault>
+    ensures { Gives result (spec.open_at head.now verb.now fs.now file.now first.now second.now owner.now) }
+{
+    if is_word(verb, b"open") {
+        let opens = open_action(alloc, head, fs, file, first, second, owner)?;
+        return Ok(Action::Open(opens));
+    }
+    if is_word(verb, b"create") {
+        let opens = open_action(alloc, head, fs, file, first, second, owner)?;
+        return Ok(Action::Create(opens));
+    }
+    if is_word(verb, b"read") {
+        let reads = read_action(alloc, head, fs, file, first, second, owner)?;
+        return Ok(Action::Read(reads));
+    }
+    if is_word(verb, b"write") {
+        let writes = write_action(alloc, head, fs, file, first, second, owner)?;
+        return Ok(Action::Write(writes));
+    }
+    Err(LineFault::Bad(Why::Word))
+}
+
 /// An action by its verb and the words behind it.
 #[tactic(auto, unfolding(crate::specs::Reading::action_at))]
 fn action(alloc: Global, head: &Head, verb: &[u8], words: &[&[u8]]) -> Result<Action, LineFault>
     ensures { Gives result (spec.action_at head.now verb.now (map (λ word. word.now) words.now)) }
 {
     match words {
-        [fs, file, access, deny, owner] => {
-            if is_word(verb, b"open") {
-                let opens = open_action(alloc, head, fs, file, access, deny, owner)?;
-                return Ok(Action::Open(opens));
-            }
-            if is_word(verb, b"create") {
-                let opens = open_action(alloc, head, fs, file, access, deny, owner)?;
-                return Ok(Action::Create(opens));
-            }
-            Err(LineFault::Bad(Why::Word))
-        }
-        [fs, file, owner] => {
-            if !is_word(verb, b"close") {
-                return Err(LineFault::Bad(Why::Word));
-            }
-            Ok(Action::Close(close_action(alloc, head, fs, file, owner)?))
+        [fs] => Ok(on_root(head, verb, fs)?),
+        [fs, file] => on_file(alloc, head, verb, fs, file),
+        [fs, file, owner] => close(alloc, head, verb, fs, file, owner),
+        [fs, file, size, owner] => set_size(alloc, head, verb, fs, file, size, owner),
+        [fs, file, first, second, owner] => {
+            on_open(alloc, head, verb, fs, file, first, second, owner)
         }
         _ => Err(LineFault::Bad(Why::Word)),
     }
 }
 
-/// `do C ACTION`. The action's keywords are judged before the names.
+// The first of a fault of an action and one of its client's name.
+#[tactic(auto, unfolding(crate::specs::Reading::first_fault))]
+fn first_fault(fault: Why, client: Result<u32, Why>) -> Why
+    ensures { result ≡ spec.first_fault fault client }
+{
+    match fault {
+        Why::Word => Why::Word,
+        _ => match client {
+            Ok(_) => fault,
+            Err(name) => name,
+        },
+    }
+}
+
+/// `do C ACTION`. The action's keywords are judged before the names, and its numbers behind them.
 #[tactic(auto, unfolding(crate::specs::Reading::action_line))]
 fn action_line(
     alloc: Global,
@@ -98,9 +294,15 @@ fn action_line(
 ) -> Result<Line, LineFault>
     ensures { Gives result (spec.action_line head.now client.now verb.now (map (λ word. word.now) words.now)) }
 {
-    let action = action(alloc, head, verb, words)?;
-    let client = client_number(head, client)?;
-    Ok(Line::Do { client, action })
+    let client = client_number(head, client);
+    match action(alloc, head, verb, words) {
+        Ok(action) => Ok(Line::Do {
+            client: client?,
+            action,
+        }),
+        Err(LineFault::Memory) => Err(LineFault::Memory),
+        Err(LineFault::Bad(why)) => Err(LineFault::Bad(first_fault(why, client))),
+    }
 }
 
 /// `do C finish`.

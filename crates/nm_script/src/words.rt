@@ -2,9 +2,12 @@
 ghost use Rattle.std.specs.Prelude.{◌≡◌, IfOk, map};
 ghost use Rattle.std.specs.Str.{bytes_eq};
 ghost use Rattle.nm_script.specs.Words as spec;
+ghost use Rattle.nm_script.specs.Reading.{Gives, count_at};
 
 use crate::Why;
-use nm_rules::Memory;
+use crate::fault::LineFault;
+use hex::FromHexError;
+use nm_rules::{Bytes, Memory};
 use std::alloc::Global;
 
 /// The words of a line, which stand apart by one space. Two spaces have an empty word between them.
@@ -153,4 +156,55 @@ pub(crate) fn deny(word: &[u8]) -> Result<u32, Why>
         return Ok(0);
     }
     access(word)
+}
+
+/// How many bytes a read asks: at most 65,536.
+#[tactic(auto, unfolding(crate::specs::Reading::count_at))]
+pub(crate) fn count(word: &[u8]) -> Result<u32, Why>
+    ensures { result ≡ count_at word.now }
+{
+    let count = number(word)?;
+    if count > 65536 {
+        return Err(Why::Number);
+    }
+    Ok(count as u32)
+}
+
+#[tactic(auto, unfolding(crate::specs::Words::is_small_digit))]
+fn is_small_digit(b: u8) -> bool
+    ensures { result ≡ spec.is_small_digit b }
+{
+    b.is_ascii_digit() || (b'a'..=b'f').contains(&b)
+}
+
+fn are_small_digits(word: &[u8]) -> bool
+    ensures { result ≡ spec.are_small_digits word.now }
+{
+    word.iter().all(|b| is_small_digit(*b))
+}
+
+/// Whether a word is 2 to 2,048 digits `0` to `9`, `a` to `f`.
+#[tactic(auto, unfolding(crate::specs::Words::is_hex))]
+fn is_hex(word: &[u8]) -> bool
+    ensures { result ≡ spec.is_hex word.now }
+{
+    if word.len() < 2 || word.len() > 2048 {
+        return false;
+    }
+    are_small_digits(word)
+}
+
+/// The bytes that a word of an even number of digits spells.
+#[tactic(auto, unfolding(crate::specs::Words::bytes_at))]
+pub(crate) fn bytes(alloc: Global, word: &[u8]) -> Result<Bytes, LineFault>
+    ensures { Gives result (spec.bytes_at word.now) }
+{
+    if !is_hex(word) {
+        return Err(LineFault::Bad(Why::Number));
+    }
+    match hex::decode(alloc, word) {
+        Ok(bytes) => Ok(Bytes::from_slice(alloc, &bytes)?),
+        Err(FromHexError::OutOfMemory) => Err(LineFault::Memory),
+        Err(_) => Err(LineFault::Bad(Why::Number)),
+    }
 }

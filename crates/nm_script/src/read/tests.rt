@@ -1,115 +1,165 @@
 use super::read_script;
-use crate::{ClientRow, FsRow, Head, Line, Lines, Script, ScriptFault, ServerRow, Why};
-use nm_rules::{Action, Bytes, CloseAction, FsNum, Items, Memory, OpenAction, ServerNum};
-use std::alloc::{AllocError, Global};
+use crate::{
+    ClientRow, ClientRows, FsRow, FsRows, Head, Line, Lines, Script, ScriptFault, ServerRow,
+    ServerRows, Why,
+};
+use nm_rules::{
+    Action, Bytes, CloseAction, FsNum, Items, Memory, NameAction, OpenAction, ReadAction,
+    ServerNum, SizeAction, WriteAction,
+};
+use std::alloc::Global;
 use std::test::*;
 
-/// The first bad line of the bytes, and why it is bad.
-fn fault_of(alloc: Global, bytes: &[u8]) -> Option<(u64, Why)> {
-    match read_script(alloc, bytes) {
-        Err(ScriptFault::At { line, why }) => Some((line, why)),
-        _ => None,
+/// A text that is no script: its first bad line, and why it is bad.
+type Refused = (&'static [u8], u64, Why);
+
+/// The first bad line of two texts, one behind the other, and why it is bad.
+fn fault_of(alloc: Global, front: &[u8], rest: &[u8]) -> Result<Option<(u64, Why)>, Memory> {
+    let mut source = Vec::from_slice(alloc, front)?;
+    source.extend_from_slice(rest)?;
+    match read_script(alloc, &source) {
+        Ok(_) => Ok(None),
+        Err(ScriptFault::At { line, why }) => Ok(Some((line, why))),
+        Err(ScriptFault::Memory) => Err(Memory),
     }
+}
+
+/// The first text of a table that isn't refused so behind that front.
+fn other(alloc: Global, front: &[u8], table: &[Refused]) -> Result<Option<&'static [u8]>, Memory> {
+    for (text, line, why) in table {
+        if fault_of(alloc, front, text)? != Some((*line, *why)) {
+            return Ok(Some(*text));
+        }
+    }
+    Ok(None)
 }
 
 /// The head that most cases stand on: five lines.
 const HEAD: &[u8] = b"nfsmove 1\nlease 90\nserver S1\nfs X at S1\nclient C1 7\n";
 
 /// Lines that are bad behind HEAD, as its line 6.
-const BAD_LINES: [(&[u8], Why); 70] = [
+const BAD_LINES: [Refused; 112] = [
     // Bytes.
-    (b"show X\r\n", Why::Bytes),
-    (b"# \x1f\n", Why::Bytes),
-    (b"#\x7f", Why::Bytes),
-    (b"show \x80", Why::Bytes),
-    (b"do\tC1 close X f o", Why::Bytes),
-    (b"lease \x00", Why::Bytes),
+    (b"show X\r\n", 6, Why::Bytes),
+    (b"# \x1f\n", 6, Why::Bytes),
+    (b"#\x7f", 6, Why::Bytes),
+    (b"show \x80", 6, Why::Bytes),
+    (b"do\tC1 close X f o", 6, Why::Bytes),
+    (b"lease \x00", 6, Why::Bytes),
     // Lines of the head that come too late.
-    (b"nfsmove 1\n", Why::Head),
-    (b"lease 90\n", Why::Head),
-    (b"server S2\n", Why::Head),
-    (b"fs Y at S1\n", Why::Head),
-    (b"lease\n", Why::Head),
-    (b"server  S2\n", Why::Head),
+    (b"nfsmove 1\n", 6, Why::Head),
+    (b"lease 90\n", 6, Why::Head),
+    (b"server S2\n", 6, Why::Head),
+    (b"fs Y at S1\n", 6, Why::Head),
+    (b"lease\n", 6, Why::Head),
+    (b"server  S2\n", 6, Why::Head),
     // Words: verbs, keywords, counts and empty words.
-    (b"alias A S1\n", Why::Word),
-    (b"do\n", Why::Word),
-    (b"do C1\n", Why::Word),
-    (b"do C1 lock X f w 0 1 o\n", Why::Word),
-    (b"do C1 open X f r none\n", Why::Word),
-    (b"do C1 open X f r none o o\n", Why::Word),
-    (b"do C1 open X  r none o\n", Why::Word),
-    (b"do C1 open X f x none o\n", Why::Word),
-    (b"do C1 open X f none r o\n", Why::Word),
-    (b"do C1 create X f r no o\n", Why::Word),
-    (b"do C1 close X f r none o\n", Why::Word),
-    (b"do C1 close X f\n", Why::Word),
-    (b"do C9 open Y ? rwr none ?\n", Why::Word),
-    (b"show\n", Why::Word),
-    (b"show \n", Why::Word),
-    (b"show X \n", Why::Word),
-    (b"show ids X\n", Why::Word),
-    (b"do C1 finish x\n", Why::Word),
-    (b"do C9 finished\n", Why::Word),
-    (b"do finish\n", Why::Word),
-    (b"freeze\n", Why::Word),
-    (b"freeze X S1\n", Why::Word),
-    (b"abandon X 1\n", Why::Word),
-    (b"commit \n", Why::Word),
-    (b"settle\n", Why::Word),
-    (b"move Y\n", Why::Word),
-    (b"move X S1 S2\n", Why::Word),
-    (b"shift X\n", Why::Word),
-    (b"shift X S1 S1\n", Why::Word),
-    (b"thaw X\n", Why::Word),
-    (b" show X\n", Why::Word),
-    (b" \n", Why::Word),
-    (b"Show X\n", Why::Word),
-    (b"client C2\n", Why::Word),
-    (b"client C2 7 8\n", Why::Word),
+    (b"alias A S1\n", 6, Why::Word),
+    (b"do\n", 6, Why::Word),
+    (b"do C1\n", 6, Why::Word),
+    (b"do C1 lock X f w 0 1 o\n", 6, Why::Word),
+    (b"do C1 open X f r none\n", 6, Why::Word),
+    (b"do C1 open X f r none o o\n", 6, Why::Word),
+    (b"do C1 open X  r none o\n", 6, Why::Word),
+    (b"do C1 open X f x none o\n", 6, Why::Word),
+    (b"do C1 open X f none r o\n", 6, Why::Word),
+    (b"do C1 create X f r no o\n", 6, Why::Word),
+    (b"do C1 close X f r none o\n", 6, Why::Word),
+    (b"do C1 close X f\n", 6, Why::Word),
+    (b"do C9 open Y ? rwr none ?\n", 6, Why::Word),
+    (b"show\n", 6, Why::Word),
+    (b"show \n", 6, Why::Word),
+    (b"show X \n", 6, Why::Word),
+    (b"show ids X\n", 6, Why::Word),
+    (b"do C1 finish x\n", 6, Why::Word),
+    (b"do C9 finished\n", 6, Why::Word),
+    (b"do finish\n", 6, Why::Word),
+    (b"freeze\n", 6, Why::Word),
+    (b"freeze X S1\n", 6, Why::Word),
+    (b"abandon X 1\n", 6, Why::Word),
+    (b"commit \n", 6, Why::Word),
+    (b"settle\n", 6, Why::Word),
+    (b"move Y\n", 6, Why::Word),
+    (b"move X S1 S2\n", 6, Why::Word),
+    (b"shift X\n", 6, Why::Word),
+    (b"shift X S1 S1\n", 6, Why::Word),
+    (b"thaw X\n", 6, Why::Word),
+    (b" show X\n", 6, Why::Word),
+    (b" \n", 6, Why::Word),
+    (b"Show X\n", 6, Why::Word),
+    (b"client C2\n", 6, Why::Word),
+    (b"client C2 7 8\n", 6, Why::Word),
+    (b"do C1 read X f 0 1\n", 6, Why::Word),
+    (b"do C1 read X f 0 1 o o\n", 6, Why::Word),
+    (b"do C9 reads Y ? x x ?\n", 6, Why::Word),
+    (b"do C1 write X f 0 00\n", 6, Why::Word),
+    (b"do C1 write X f 0  o\n", 6, Why::Word),
+    (b"do C1 size X f o\n", 6, Why::Word),
+    (b"do C1 size X f 1 2 o\n", 6, Why::Word),
+    (b"do C9 sizes Y ? x ?\n", 6, Why::Word),
+    (b"do C1 remove X\n", 6, Why::Word),
+    (b"do C1 remove X f o\n", 6, Why::Word),
+    (b"do C9 rmdir Y ?\n", 6, Why::Word),
+    (b"do C1 mkdir X d e\n", 6, Why::Word),
+    (b"do C1 list\n", 6, Why::Word),
+    (b"do C1 list X f\n", 6, Why::Word),
+    (b"do C9 lists Y\n", 6, Why::Word),
+    (b"read X f 0 1 o\n", 6, Why::Word),
     // Names that are unknown, of another form or given twice.
-    (b"show Y\n", Why::Name),
-    (b"show S1\n", Why::Name),
-    (b"do C2 close X f o\n", Why::Name),
-    (b"do C2 finish\n", Why::Name),
-    (b"do X finish\n", Why::Name),
-    (b"move X S2\n", Why::Name),
-    (b"move Y S1\n", Why::Name),
-    (b"move S1 X\n", Why::Name),
-    (b"shift X C1\n", Why::Name),
-    (b"shift C1 S1\n", Why::Name),
-    (b"freeze S1\n", Why::Name),
-    (b"abandon C1\n", Why::Name),
-    (b"commit Y\n", Why::Name),
-    (b"settle x\n", Why::Name),
-    (b"do C1 close Y f o\n", Why::Name),
-    (b"do C1 close X . o\n", Why::Name),
-    (b"do C1 open X .. r none o\n", Why::Name),
-    (b"do C1 open X f/g r none o\n", Why::Name),
-    (b"do C1 open X f r none o.o\n", Why::Name),
-    (b"client X 8\n", Why::Name),
-    (b"client abcdefghijklmnopq x\n", Why::Name),
-    // Numbers.
-    (b"client C2 07\n", Why::Number),
-    (b"client C2 18446744073709551616\n", Why::Number),
+    (b"show Y\n", 6, Why::Name),
+    (b"show S1\n", 6, Why::Name),
+    (b"do C2 close X f o\n", 6, Why::Name),
+    (b"do C2 finish\n", 6, Why::Name),
+    (b"do X finish\n", 6, Why::Name),
+    (b"move X S2\n", 6, Why::Name),
+    (b"move Y S1\n", 6, Why::Name),
+    (b"move S1 X\n", 6, Why::Name),
+    (b"shift X C1\n", 6, Why::Name),
+    (b"shift C1 S1\n", 6, Why::Name),
+    (b"freeze S1\n", 6, Why::Name),
+    (b"abandon C1\n", 6, Why::Name),
+    (b"commit Y\n", 6, Why::Name),
+    (b"settle x\n", 6, Why::Name),
+    (b"do C1 close Y f o\n", 6, Why::Name),
+    (b"do C1 close X . o\n", 6, Why::Name),
+    (b"do C1 open X .. r none o\n", 6, Why::Name),
+    (b"do C1 open X f/g r none o\n", 6, Why::Name),
+    (b"do C1 open X f r none o.o\n", 6, Why::Name),
+    (b"client X 8\n", 6, Why::Name),
+    (b"client abcdefghijklmnopq x\n", 6, Why::Name),
+    (b"do C9 read X f x x o\n", 6, Why::Name),
+    (b"do C1 read Y f x x o\n", 6, Why::Name),
+    (b"do C1 read X f/g x x o\n", 6, Why::Name),
+    (b"do C1 read X f x x o.o\n", 6, Why::Name),
+    (b"do C9 write X f 0 0 o\n", 6, Why::Name),
+    (b"do C1 write X .. 0 0 o\n", 6, Why::Name),
+    (b"do C9 size X f x o\n", 6, Why::Name),
+    (b"do C1 size S1 f x o\n", 6, Why::Name),
+    (b"do C9 remove X f\n", 6, Why::Name),
+    (b"do C1 remove Y f\n", 6, Why::Name),
+    (b"do C1 remove X ..\n", 6, Why::Name),
+    (b"do C1 mkdir X d/e\n", 6, Why::Name),
+    (b"do C9 list X\n", 6, Why::Name),
+    (b"do C1 list S1\n", 6, Why::Name),
+    // Numbers, behind the names.
+    (b"client C2 07\n", 6, Why::Number),
+    (b"client C2 18446744073709551616\n", 6, Why::Number),
+    (b"do C1 read X f 0 65537 o\n", 6, Why::Number),
+    (b"do C1 read X f 0 01 o\n", 6, Why::Number),
+    (b"do C1 read X f -1 1 o\n", 6, Why::Number),
+    (b"do C1 read X f 18446744073709551616 1 o\n", 6, Why::Number),
+    (b"do C1 write X f 00 00 o\n", 6, Why::Number),
+    (b"do C1 write X f 0 0 o\n", 6, Why::Number),
+    (b"do C1 write X f 0 68696 o\n", 6, Why::Number),
+    (b"do C1 write X f 0 6A o\n", 6, Why::Number),
+    (b"do C1 write X f 0 g0 o\n", 6, Why::Number),
+    (b"do C1 write X f 0 - o\n", 6, Why::Number),
+    (b"do C1 size X f +1 o\n", 6, Why::Number),
+    (b"do C1 size X f 18446744073709551616 o\n", 6, Why::Number),
 ];
 
-#[test]
-fn bad_lines(rt: HostRuntime) -> Result<(), Fail> {
-    for (line, why) in BAD_LINES {
-        let mut source = Vec::from_slice(rt.alloc(), HEAD)?;
-        source.extend_from_slice(line)?;
-        assert_eq!(rt;
-            fault_of(rt.alloc(), &source),
-            Some((6, why)),
-            "at {line:?}"
-        );
-    }
-    Ok(())
-}
-
 /// Sources with a bad head, each with its first bad line.
-const BAD_HEADS: [(&[u8], u64, Why); 39] = [
+const BAD_HEADS: [Refused; 39] = [
     // Nothing at all, and heads that end too early.
     (b"", 1, Why::Head),
     (b"\n", 2, Why::Head),
@@ -201,362 +251,360 @@ const BAD_HEADS: [(&[u8], u64, Why); 39] = [
 ];
 
 #[test]
-fn bad_heads(rt: HostRuntime) {
-    for (source, line, why) in BAD_HEADS {
-        assert_eq!(rt;
-            fault_of(rt.alloc(), source),
-            Some((line, why)),
-            "at {source:?}"
-        );
-    }
+fn bad_sources(rt: HostRuntime) -> Result<(), Fail> {
+    assert_eq!(rt; other(rt.alloc(), HEAD, &BAD_LINES)?, None);
+    assert_eq!(rt; other(rt.alloc(), b"", &BAD_HEADS)?, None);
+    Ok(())
 }
+
+/// What each kind of line says, with comments and empty lines between them, and with no line feed at the end.
+const STORY: &[u8] = b"# two servers\n\
+nfsmove 1\n\
+lease 3600\n\
+server S1\n\
+server abcdefghijklmnop\n\
+\n\
+fs home at S1\n\
+fs X at abcdefghijklmnop\n\
+#~ !\n\
+client C1 0\n\
+client c_2 18446744073709551615\n\
+do c_2 open home a.txt rw none o-2\n\
+do C1 create home ... r w o\n\
+do C1 close home ... o\n\
+do C1 read X f 18446744073709551615 65536 o\n\
+do c_2 read X f 0 0 o\n\
+do C1 write X f 7 00ff6869 o\n\
+do C1 size X f 18446744073709551615 o\n\
+do C1 remove home f\n\
+do C1 mkdir X d\n\
+do c_2 list X\n\
+do C1 finish\n\
+move X S1\n\
+freeze X\n\
+abandon X\n\
+commit X\n\
+settle home\n\
+shift home abcdefghijklmnop\n\
+show home";
 
 fn text(alloc: Global, text: &[u8]) -> Result<Bytes, Memory> {
     Bytes::from_slice(alloc, text)
 }
 
-/// A script of one server, with nothing else.
-fn smallest(alloc: Global, lease: u32, server: &[u8]) -> Result<Script, Memory> {
-    let mut servers = Items::new(alloc);
-    servers.push(ServerRow {
-        name: text(alloc, server)?,
-    })?;
-    Ok(Script {
-        head: Head {
-            lease,
-            servers,
-            file_systems: Items::new(alloc),
-            clients: Items::new(alloc),
-        },
-        lines: Lines::new(alloc),
-    })
+fn servers_of_story(alloc: Global) -> Result<ServerRows, Memory> {
+    let mut rows = Items::new(alloc);
+    for name in [b"S1".as_slice(), b"abcdefghijklmnop"] {
+        let name = text(alloc, name)?;
+        rows.push(ServerRow { name })?;
+    }
+    Ok(rows)
 }
 
-#[test]
-fn smallest_scripts(rt: HostRuntime) -> Result<(), Fail> {
-    let alloc = rt.alloc();
-    let source = b"nfsmove 1\nlease 90\nserver S1\n";
-    assert_eq!(rt; read_script(alloc, source), Ok(smallest(alloc, 90, b"S1")?));
-    // The last line feed may be missing.
-    let source = b"nfsmove 1\nlease 1\nserver abcdefghijklmnop";
-    let want = smallest(alloc, 1, b"abcdefghijklmnop")?;
-    assert_eq!(rt; read_script(alloc, source), Ok(want));
-    // Empty lines and comments say nothing, wherever they stand.
-    let source = b"\n#\nnfsmove 1\n#~ !\nlease 3600\n\n\nserver -_\n\n# done";
-    assert_eq!(rt;
-        read_script(alloc, source),
-        Ok(smallest(alloc, 3600, b"-_")?)
-    );
-    Ok(())
+fn file_systems_of_story(alloc: Global) -> Result<FsRows, Fail> {
+    let mut rows = Items::new(alloc);
+    for (name, at) in [(b"home".as_slice(), 0), (b"X", 1)] {
+        let at = ServerNum::new(at).ok_or("a server")?;
+        let name = text(alloc, name)?;
+        rows.push(FsRow { name, at })?;
+    }
+    Ok(rows)
 }
 
-const STORY: &[u8] = b"# two clients\n\
-nfsmove 1\n\
-lease 90\n\
-server S1\n\
-fs home at S1\n\
-client C1 0\n\
-client c2 18446744073709551615\n\
-\n\
-do c2 open home a.txt rw none o-2\n\
-do C1 create home ... r w o\n\
-show home\n\
-do C1 close home ... o";
+fn clients_of_story(alloc: Global) -> Result<ClientRows, Memory> {
+    let mut rows = Items::new(alloc);
+    for (name, verifier) in [(b"C1".as_slice(), 0), (b"c_2", u64::MAX)] {
+        let name = text(alloc, name)?;
+        rows.push(ClientRow { name, verifier })?;
+    }
+    Ok(rows)
+}
 
-fn open(alloc: Global, file: &[u8], shares: (u32, u32), owner: &[u8]) -> Result<OpenAction, Fail> {
+fn open(
+    alloc: Global,
+    fs: FsNum,
+    file: &[u8],
+    access: u32,
+    deny: u32,
+    owner: &[u8],
+) -> Result<OpenAction, Memory> {
     Ok(OpenAction {
-        fs: FsNum::new(0).ok_or("0 is a file system")?,
+        fs,
         file: text(alloc, file)?,
-        access: shares.0,
-        deny: shares.1,
+        access,
+        deny,
         owner: text(alloc, owner)?,
     })
 }
 
+fn close(alloc: Global, fs: FsNum) -> Result<CloseAction, Memory> {
+    Ok(CloseAction {
+        fs,
+        file: text(alloc, b"...")?,
+        owner: text(alloc, b"o")?,
+    })
+}
+
+fn read(alloc: Global, fs: FsNum, offset: u64, count: u32) -> Result<ReadAction, Memory> {
+    Ok(ReadAction {
+        fs,
+        file: text(alloc, b"f")?,
+        offset,
+        count,
+        owner: text(alloc, b"o")?,
+    })
+}
+
+fn write(alloc: Global, fs: FsNum) -> Result<WriteAction, Memory> {
+    Ok(WriteAction {
+        fs,
+        file: text(alloc, b"f")?,
+        offset: 7,
+        data: text(alloc, b"\x00\xffhi")?,
+        owner: text(alloc, b"o")?,
+    })
+}
+
+fn size(alloc: Global, fs: FsNum) -> Result<SizeAction, Memory> {
+    Ok(SizeAction {
+        fs,
+        file: text(alloc, b"f")?,
+        size: u64::MAX,
+        owner: text(alloc, b"o")?,
+    })
+}
+
+fn on_name(alloc: Global, fs: FsNum, file: &[u8]) -> Result<NameAction, Memory> {
+    let file = text(alloc, file)?;
+    Ok(NameAction { fs, file })
+}
+
+/// What is done by the clients, from the first line on.
+fn action(alloc: Global, number: usize, home: FsNum, x: FsNum) -> Result<Action, Memory> {
+    Ok(match number {
+        0 => Action::Open(open(alloc, home, b"a.txt", 3, 0, b"o-2")?),
+        1 => Action::Create(open(alloc, home, b"...", 1, 2, b"o")?),
+        2 => Action::Close(close(alloc, home)?),
+        3 => Action::Read(read(alloc, x, u64::MAX, 65536)?),
+        4 => Action::Read(read(alloc, x, 0, 0)?),
+        5 => Action::Write(write(alloc, x)?),
+        6 => Action::Size(size(alloc, x)?),
+        7 => Action::Remove(on_name(alloc, home, b"f")?),
+        8 => Action::MkDir(on_name(alloc, x, b"d")?),
+        _ => Action::List(x),
+    })
+}
+
+/// Who does it.
+const BY: [u32; 10] = [1, 0, 0, 0, 1, 0, 0, 0, 0, 1];
+
+fn lines_of_story(alloc: Global) -> Result<Lines, Fail> {
+    let home = FsNum::new(0).ok_or("a file system")?;
+    let x = FsNum::new(1).ok_or("a file system")?;
+    let first = ServerNum::new(0).ok_or("a server")?;
+    let second = ServerNum::new(1).ok_or("a server")?;
+    let mut lines = Lines::new(alloc);
+    for number in 0..10 {
+        let action = action(alloc, number, home, x)?;
+        let client = BY[number];
+        lines.push(Line::Do { client, action })?;
+    }
+    for line in [
+        Line::Finish { client: 0 },
+        Line::Move { fs: x, to: first },
+        Line::Freeze(x),
+        Line::Abandon(x),
+        Line::Commit(x),
+        Line::Settle(home),
+        Line::Shift {
+            fs: home,
+            to: second,
+        },
+        Line::Show(home),
+    ] {
+        lines.push(line)?;
+    }
+    Ok(lines)
+}
+
 /// What STORY says.
 fn story(alloc: Global) -> Result<Script, Fail> {
-    let mut script = smallest(alloc, 90, b"S1")?;
-    let home = FsNum::new(0).ok_or("0 is a file system")?;
-    script.head.file_systems.push(FsRow {
-        name: text(alloc, b"home")?,
-        at: ServerNum::new(0).ok_or("0 is a server")?,
-    })?;
-    for (name, verifier) in [(b"C1".as_slice(), 0), (b"c2", u64::MAX)] {
-        let name = text(alloc, name)?;
-        script.head.clients.push(ClientRow { name, verifier })?;
-    }
-    script.lines.push(Line::Do {
-        client: 1,
-        action: Action::Open(open(alloc, b"a.txt", (3, 0), b"o-2")?),
-    })?;
-    script.lines.push(Line::Do {
-        client: 0,
-        action: Action::Create(open(alloc, b"...", (1, 2), b"o")?),
-    })?;
-    script.lines.push(Line::Show(home))?;
-    script.lines.push(Line::Do {
-        client: 0,
-        action: Action::Close(CloseAction {
-            fs: home,
-            file: text(alloc, b"...")?,
-            owner: text(alloc, b"o")?,
-        }),
-    })?;
-    Ok(script)
+    Ok(Script {
+        head: Head {
+            lease: 3600,
+            servers: servers_of_story(alloc)?,
+            file_systems: file_systems_of_story(alloc)?,
+            clients: clients_of_story(alloc)?,
+        },
+        lines: lines_of_story(alloc)?,
+    })
 }
 
 #[test]
-fn whole_script(rt: HostRuntime) -> Result<(), Fail> {
-    assert_eq!(rt; read_script(rt.alloc(), STORY), Ok(story(rt.alloc())?));
+fn each_kind_of_line(rt: HostRuntime) -> Result<(), Fail> {
+    let want = story(rt.alloc())?;
+    assert_eq!(rt; read_script(rt.alloc(), STORY), Ok(want));
+    // The least that a script may be.
+    let least = b"nfsmove 1\nlease 1\nserver -_";
+    assert_eq!(rt; fault_of(rt.alloc(), least, b"")?, None);
     Ok(())
 }
 
-/// Two servers, two file systems, and each line that moves one.
-const MOVES: &[u8] = b"nfsmove 1\n\
-lease 90\n\
-server S1\n\
-server s-2\n\
-fs home at s-2\n\
-fs X at S1\n\
-client C1 7\n\
-move X s-2\n\
-freeze X\n\
-do C1 finish\n\
-commit X\n\
-settle X\n\
-abandon home\n\
-shift home S1\n\
-show X\n";
-
-/// The head of MOVES.
-fn head_of_moves(alloc: Global) -> Result<Script, Fail> {
-    let mut script = smallest(alloc, 90, b"S1")?;
-    script.head.servers.push(ServerRow {
-        name: text(alloc, b"s-2")?,
-    })?;
-    for (name, at) in [(b"home".as_slice(), 1), (b"X", 0)] {
-        script.head.file_systems.push(FsRow {
-            name: text(alloc, name)?,
-            at: ServerNum::new(at).ok_or("no such server")?,
-        })?;
-    }
-    script.head.clients.push(ClientRow {
-        name: text(alloc, b"C1")?,
-        verifier: 7,
-    })?;
-    Ok(script)
-}
-
-#[test]
-fn lines_that_move_a_file_system(rt: HostRuntime) -> Result<(), Fail> {
-    let alloc = rt.alloc();
-    let mut script = head_of_moves(alloc)?;
-    let home = FsNum::new(0).ok_or("0 is a file system")?;
-    let x = FsNum::new(1).ok_or("1 is a file system")?;
-    let s1 = ServerNum::new(0).ok_or("0 is a server")?;
-    let s2 = ServerNum::new(1).ok_or("1 is a server")?;
-    script.lines.push(Line::Move { fs: x, to: s2 })?;
-    script.lines.push(Line::Freeze(x))?;
-    script.lines.push(Line::Finish { client: 0 })?;
-    script.lines.push(Line::Commit(x))?;
-    script.lines.push(Line::Settle(x))?;
-    script.lines.push(Line::Abandon(home))?;
-    script.lines.push(Line::Shift { fs: home, to: s1 })?;
-    script.lines.push(Line::Show(x))?;
-    assert_eq!(rt; read_script(alloc, MOVES), Ok(script));
-    Ok(())
-}
-
-/// HEAD and that text again and again.
-fn repeated(alloc: Global, line: &[u8], times: usize) -> Result<Vec<u8>, AllocError> {
-    let mut source = Vec::from_slice(alloc, HEAD)?;
+/// A text again and again.
+fn repeated(alloc: Global, text: &[u8], times: usize) -> Result<Vec<u8>, Memory> {
+    let mut source = Vec::new(alloc);
     for _ in 0..times {
-        source.extend_from_slice(line)?;
+        source.extend_from_slice(text)?;
     }
     Ok(source)
+}
+
+/// What is wrong behind HEAD with a text that stands there so many times.
+fn fault_of_many(alloc: Global, line: &[u8], times: usize) -> Result<Option<(u64, Why)>, Memory> {
+    let lines = repeated(alloc, line, times)?;
+    fault_of(alloc, HEAD, &lines)
 }
 
 #[test]
 fn at_most_4000_lines(rt: HostRuntime) -> Result<(), Fail> {
     let line = b"do C1 open X f r none o\n";
-    let source = repeated(rt.alloc(), line, 3995)?;
-    let script = read_script(rt.alloc(), &source)?;
-    assert_eq!(rt; script.lines.items().len(), 3995);
-    let source = repeated(rt.alloc(), line, 3996)?;
-    assert_eq!(rt; fault_of(rt.alloc(), &source), Some((4001, Why::Limit)));
+    assert_eq!(rt; fault_of_many(rt.alloc(), line, 3995)?, None);
+    let past = Some((4001, Why::Limit));
+    assert_eq!(rt; fault_of_many(rt.alloc(), line, 3996)?, past);
     // Comments and empty lines count, and an earlier fault comes first.
-    let source = repeated(rt.alloc(), b"#\n\n", 1998)?;
-    assert_eq!(rt; fault_of(rt.alloc(), &source), Some((4001, Why::Limit)));
-    let source = repeated(rt.alloc(), b"show Y\n", 3996)?;
-    assert_eq!(rt; fault_of(rt.alloc(), &source), Some((6, Why::Name)));
+    assert_eq!(rt; fault_of_many(rt.alloc(), b"#\n\n", 1998)?, past);
+    let name = Some((6, Why::Name));
+    assert_eq!(rt; fault_of_many(rt.alloc(), b"show Y\n", 3996)?, name);
     Ok(())
 }
 
+/// What is wrong with a line behind HEAD of two texts, with that byte between them so many times.
+fn fault_of_long(
+    alloc: Global,
+    front: &[u8],
+    byte: u8,
+    times: usize,
+    end: &[u8],
+) -> Result<Option<(u64, Why)>, Memory> {
+    let mut line = Vec::from_slice(alloc, front)?;
+    line.extend_from_slice(&repeated(alloc, &[byte], times)?)?;
+    line.extend_from_slice(end)?;
+    fault_of(alloc, HEAD, &line)
+}
+
 #[test]
-fn at_most_4096_bytes_a_line(rt: HostRuntime) -> Result<(), Fail> {
-    let mut source = Vec::from_slice(rt.alloc(), HEAD)?;
-    source.extend_from_slice(b"#")?;
-    source.extend_from_slice(&[b' '; 4095])?;
-    source.extend_from_slice(b"\n")?;
-    assert_eq!(rt; fault_of(rt.alloc(), &source), None);
-    let mut source = Vec::from_slice(rt.alloc(), HEAD)?;
-    source.extend_from_slice(b"\x01")?;
-    source.extend_from_slice(&[b' '; 4096])?;
-    assert_eq!(rt; fault_of(rt.alloc(), &source), Some((6, Why::Limit)));
+fn long_lines(rt: HostRuntime) -> Result<(), Fail> {
+    // At most 4,096 bytes, and the limit comes before a byte that may not stand there.
+    assert_eq!(rt; fault_of_long(rt.alloc(), b"#", b' ', 4095, b"\n")?, None);
+    let limit = Some((6, Why::Limit));
+    assert_eq!(rt; fault_of_long(rt.alloc(), b"\x01", b' ', 4096, b"")?, limit);
+    // At most 1,024 bytes to write.
+    let front = b"do C1 write X f 0 ";
+    let number = Some((6, Why::Number));
+    assert_eq!(rt; fault_of_long(rt.alloc(), front, b'f', 2048, b" o")?, None);
+    assert_eq!(rt;
+        fault_of_long(rt.alloc(), front, b'f', 2047, b" o")?,
+        number
+    );
+    assert_eq!(rt;
+        fault_of_long(rt.alloc(), front, b'f', 2050, b" o")?,
+        number
+    );
     Ok(())
 }
 
 #[test]
 fn at_most_16_mib(rt: HostRuntime) -> Result<(), Fail> {
     let long = Vec::from_elem(rt.alloc(), b'#', 16_777_217)?;
-    assert_eq!(rt; fault_of(rt.alloc(), &long), Some((1, Why::Limit)));
-    let mut source = Vec::from_slice(rt.alloc(), HEAD)?;
-    source.extend_from_slice(&long)?;
-    assert_eq!(rt; fault_of(rt.alloc(), &source), Some((6, Why::Limit)));
+    let first = Some((1, Why::Limit));
+    assert_eq!(rt; fault_of(rt.alloc(), b"", &long)?, first);
+    let sixth = Some((6, Why::Limit));
+    assert_eq!(rt; fault_of(rt.alloc(), HEAD, &long)?, sixth);
     // The lines before it are judged as ever.
-    let mut source = Vec::from_slice(rt.alloc(), b"nfsmove 1\nlease 0\n")?;
-    source.extend_from_slice(&long)?;
-    assert_eq!(rt; fault_of(rt.alloc(), &source), Some((2, Why::Number)));
+    let number = Some((2, Why::Number));
+    let front = b"nfsmove 1\nlease 0\n";
+    assert_eq!(rt; fault_of(rt.alloc(), front, &long)?, number);
     Ok(())
 }
 
-/// The beginning of a line of a head, and its end behind the name.
-struct Around {
-    keyword: &'static [u8],
-    end: &'static [u8],
-}
-
-const SERVER: Around = Around {
-    keyword: b"server ",
-    end: b"\n",
-};
-
-const FILE_SYSTEM: Around = Around {
-    keyword: b"fs ",
-    end: b" at S1\n",
-};
-
-const CLIENT: Around = Around {
-    keyword: b"client ",
-    end: b" 1\n",
-};
-
-/// A head that begins so and goes on with that many lines of a kind, for the names `c000` and on.
-fn rows(alloc: Global, front: &[u8], around: &Around, count: u8) -> Result<Vec<u8>, AllocError> {
+/// Lines of a kind for the names `c000` and on, behind a front: a keyword, the name and the line's end.
+fn rows(
+    alloc: Global,
+    front: &[u8],
+    keyword: &[u8],
+    end: &[u8],
+    count: u8,
+) -> Result<Vec<u8>, Memory> {
     let mut source = Vec::from_slice(alloc, front)?;
     for n in 0..count {
-        let name = [b'c', b'0' + n / 100, b'0' + n / 10 % 10, b'0' + n % 10];
-        source.extend_from_slice(around.keyword)?;
-        source.extend_from_slice(&name)?;
-        source.extend_from_slice(around.end)?;
+        source.extend_from_slice(keyword)?;
+        source.extend_from_slice(&[b'c', b'0' + n / 100, b'0' + n / 10 % 10, b'0' + n % 10])?;
+        source.extend_from_slice(end)?;
     }
     Ok(source)
 }
 
-/// A head with that many servers.
-fn servers(alloc: Global, count: u8) -> Result<Vec<u8>, AllocError> {
-    rows(alloc, b"nfsmove 1\nlease 90\n", &SERVER, count)
-}
+/// The front of a head with many servers.
+const LEASED: &[u8] = b"nfsmove 1\nlease 90\n";
 
-/// A head with one server and that many file systems.
-fn file_systems(alloc: Global, count: u8) -> Result<Vec<u8>, AllocError> {
-    let front = b"nfsmove 1\nlease 90\nserver S1\n";
-    rows(alloc, front, &FILE_SYSTEM, count)
-}
+/// The front of a head with one server and many file systems or clients.
+const SERVED: &[u8] = b"nfsmove 1\nlease 90\nserver S1\n";
 
-/// A head with one server and that many clients.
-fn clients(alloc: Global, count: u8) -> Result<Vec<u8>, AllocError> {
-    let front = b"nfsmove 1\nlease 90\nserver S1\n";
-    rows(alloc, front, &CLIENT, count)
-}
+/// Bad lines behind 16 servers. The limit comes before any other fault of its line, but out of order the line is of the head.
+const BEHIND_SERVERS: [Refused; 7] = [
+    (b"server c016", 19, Why::Limit),
+    (b"server", 19, Why::Limit),
+    (b"server c000", 19, Why::Limit),
+    (b"server \x01 x", 19, Why::Limit),
+    (b"lease 90", 19, Why::Head),
+    (b"fs X at c016", 19, Why::Name),
+    (b"fs X at c015\nserver S2", 20, Why::Head),
+];
 
-#[test]
-fn at_most_16_servers(rt: HostRuntime) -> Result<(), Fail> {
-    let source = servers(rt.alloc(), 16)?;
-    let script = read_script(rt.alloc(), &source)?;
-    assert_eq!(rt; script.head.servers.items().len(), 16);
-    let source = servers(rt.alloc(), 17)?;
-    assert_eq!(rt; fault_of(rt.alloc(), &source), Some((19, Why::Limit)));
-    // The limit comes before any other fault of its line, but out of order the line is of the head.
-    for (text, line, why) in [
-        (b"server".as_slice(), 19, Why::Limit),
-        (b"server c000", 19, Why::Limit),
-        (b"server \x01 x", 19, Why::Limit),
-        (b"lease 90", 19, Why::Head),
-        (b"fs X at c016", 19, Why::Name),
-        (b"fs X at c015\nserver S2", 20, Why::Head),
-    ] {
-        let mut source = servers(rt.alloc(), 16)?;
-        source.extend_from_slice(text)?;
-        assert_eq!(rt;
-            fault_of(rt.alloc(), &source),
-            Some((line, why)),
-            "at {text:?}"
-        );
+/// Bad lines behind one server and 64 file systems.
+const BEHIND_FILE_SYSTEMS: [Refused; 6] = [
+    (b"fs c064 at S1", 68, Why::Limit),
+    (b"fs", 68, Why::Limit),
+    (b"fs c000 in \x01", 68, Why::Limit),
+    (b"server S2", 68, Why::Head),
+    (b"show c064", 68, Why::Name),
+    (b"client C1 1\nfs X at S1", 69, Why::Head),
+];
+
+/// Bad lines behind one server and 64 clients.
+const BEHIND_CLIENTS: [Refused; 7] = [
+    (b"client c064 1", 68, Why::Limit),
+    (b"client", 68, Why::Limit),
+    (b"client \x01 x", 68, Why::Limit),
+    (b"server S2", 68, Why::Head),
+    (b"clients", 68, Why::Word),
+    (b"do c000 close X f o", 68, Why::Name),
+    (b"show\nclient C1 7", 68, Why::Word),
+];
+
+/// Whether so many rows make a head, and what else stands behind them is refused as the table says.
+fn other_behind(
+    alloc: Global,
+    source: &[u8],
+    table: &[Refused],
+) -> Result<Option<&'static [u8]>, Memory> {
+    if fault_of(alloc, source, b"")? != None {
+        return Ok(Some(b""));
     }
-    Ok(())
+    other(alloc, source, table)
 }
 
 #[test]
-fn at_most_64_file_systems(rt: HostRuntime) -> Result<(), Fail> {
-    let source = file_systems(rt.alloc(), 64)?;
-    let script = read_script(rt.alloc(), &source)?;
-    assert_eq!(rt; script.head.file_systems.items().len(), 64);
-    let source = file_systems(rt.alloc(), 65)?;
-    assert_eq!(rt; fault_of(rt.alloc(), &source), Some((68, Why::Limit)));
-    for (text, line, why) in [
-        (b"fs".as_slice(), 68, Why::Limit),
-        (b"fs c000 in \x01", 68, Why::Limit),
-        (b"server S2", 68, Why::Head),
-        (b"show c064", 68, Why::Name),
-        (b"client C1 1\nfs X at S1", 69, Why::Head),
-    ] {
-        let mut source = file_systems(rt.alloc(), 64)?;
-        source.extend_from_slice(text)?;
-        assert_eq!(rt;
-            fault_of(rt.alloc(), &source),
-            Some((line, why)),
-            "at {text:?}"
-        );
-    }
-    Ok(())
-}
-
-#[test]
-fn at_most_64_clients(rt: HostRuntime) -> Result<(), Fail> {
-    let source = clients(rt.alloc(), 64)?;
-    let script = read_script(rt.alloc(), &source)?;
-    assert_eq!(rt; script.head.clients.items().len(), 64);
-    let source = clients(rt.alloc(), 65)?;
-    assert_eq!(rt; fault_of(rt.alloc(), &source), Some((68, Why::Limit)));
-    // The limit comes before any other fault of its line, but out of order the line is of the head.
-    for (line, why) in [
-        (b"client".as_slice(), Why::Limit),
-        (b"client \x01 x", Why::Limit),
-        (b"server S2", Why::Head),
-        (b"clients", Why::Word),
-    ] {
-        let mut source = clients(rt.alloc(), 64)?;
-        source.extend_from_slice(line)?;
-        assert_eq!(rt;
-            fault_of(rt.alloc(), &source),
-            Some((68, why)),
-            "at {line:?}"
-        );
-    }
-    let mut source = clients(rt.alloc(), 64)?;
-    source.extend_from_slice(b"show\nclient C1 7\n")?;
-    assert_eq!(rt; fault_of(rt.alloc(), &source), Some((68, Why::Word)));
-    Ok(())
-}
-
-#[test]
-fn a_client_behind_lines_that_are_run(rt: HostRuntime) -> Result<(), Fail> {
-    let mut source = clients(rt.alloc(), 64)?;
-    source.extend_from_slice(b"do c000 close X f o\n")?;
-    assert_eq!(rt; fault_of(rt.alloc(), &source), Some((68, Why::Name)));
-    let mut source = Vec::from_slice(rt.alloc(), HEAD)?;
-    source.extend_from_slice(b"show X\nclient\n")?;
-    assert_eq!(rt; fault_of(rt.alloc(), &source), Some((7, Why::Head)));
+fn at_most_16_servers_and_64_others(rt: HostRuntime) -> Result<(), Fail> {
+    let alloc = rt.alloc();
+    let source = rows(alloc, LEASED, b"server ", b"\n", 16)?;
+    assert_eq!(rt; other_behind(alloc, &source, &BEHIND_SERVERS)?, None);
+    let source = rows(alloc, SERVED, b"fs ", b" at S1\n", 64)?;
+    assert_eq!(rt; other_behind(alloc, &source, &BEHIND_FILE_SYSTEMS)?, None);
+    let source = rows(alloc, SERVED, b"client ", b" 1\n", 64)?;
+    assert_eq!(rt; other_behind(alloc, &source, &BEHIND_CLIENTS)?, None);
+    // A line of the head behind one that is run is out of order, whatever it says.
+    let head = Some((7, Why::Head));
+    assert_eq!(rt; fault_of(alloc, HEAD, b"show X\nclient\n")?, head);
     Ok(())
 }

@@ -1,92 +1,17 @@
 use super::{append_line_text, fault_text, held_text, line_text, usage_text};
 use crate::{
-    HeldReport, IdleRow, MoveNames, MoveRow, MoveTold, OutcomeRow, PhaseNow, PhaseReport, Report,
-    ReportRow, Told, Why,
+    HeldReport, IdleRow, MoveNames, MoveRow, MoveTold, Names, OutcomeRow, PhaseNow, PhaseReport,
+    Report, ReportRow, Told, Why,
 };
 use nm_rules::{
-    Bytes, Cause, HeldKind, HeldRow, Instance, Items, Memory, MoveNum, OpStatus, Principal, Verb,
+    Bytes, Cause, HeldKind, HeldRow, HeldTable, Instance, Items, Memory, MoveNum, OpStatus,
+    Principal, ReadOk, Verb,
 };
 use std::alloc::Global;
 use std::test::Fail;
 
-fn name(alloc: Global, text: &str) -> Result<Bytes, Memory> {
-    Items::from_slice(alloc, text.as_bytes())
-}
-
-fn outcome(alloc: Global, client: &str, verb: Verb, told: Told) -> Result<Report, Memory> {
-    let mut report = Items::new(alloc);
-    report.push(ReportRow::Outcome(OutcomeRow {
-        client: name(alloc, client)?,
-        verb,
-        told,
-    }))?;
-    Ok(report)
-}
-
-// An open that reads and denies nothing.
-fn reading(alloc: Global, file: &str, owner: &str) -> Result<HeldRow, Fail> {
-    let principal = Principal { flavor: 1, uid: 1 };
-    Ok(HeldRow {
-        counter: 2,
-        seqid: 1,
-        file: 16,
-        name: name(alloc, file)?,
-        instance: Instance::make(b"nfsmove/C2", 7, principal)?,
-        owner: name(alloc, owner)?,
-        row: HeldKind::Open { access: 1, deny: 0 },
-    })
-}
-
-fn held(alloc: Global) -> Result<Report, Fail> {
-    let mut table = Items::new(alloc);
-    table.push(reading(alloc, "f", "C2/p")?)?;
-    let mut report = Items::new(alloc);
-    report.push(ReportRow::Held(HeldReport {
-        file_system: name(alloc, "X")?,
-        phase: PhaseNow::At(name(alloc, "S1")?),
-        table,
-    }))?;
-    Ok(report)
-}
-
-#[test]
-fn a_run_is_printed_line_by_line(rt: HostRuntime) -> Result<(), Fail> {
-    let alloc = rt.alloc();
-    let ok = Told::Answered(OpStatus::Nfs4Ok);
-    let denied = Told::Answered(OpStatus::ShareDenied);
-    let mut out = Vec::new(alloc);
-    append_line_text(&mut out, &outcome(alloc, "C1", Verb::Create, ok)?)?;
-    append_line_text(&mut out, &outcome(alloc, "C2", Verb::Open, denied)?)?;
-    append_line_text(&mut out, &held(alloc)?)?;
-    append_line_text(&mut out, &outcome(alloc, "C1", Verb::Close, Told::NoState)?)?;
-    let wanted =
-        "C1 create OK\nC2 open SHARE_DENIED\nX at S1\n  open f C2/p r none\nC1 close NOSTATE\n";
-    assert_eq!(rt; out.as_slice(), wanted.as_bytes());
-    Ok(())
-}
-
-#[test]
-fn a_table_of_several_rows_is_printed_in_order(rt: HostRuntime) -> Result<(), Fail> {
-    let alloc = rt.alloc();
-    let mut table = Items::new(alloc);
-    table.push(reading(alloc, "f", "C2/p")?)?;
-    table.push(HeldRow {
-        row: HeldKind::Open { access: 3, deny: 2 },
-        ..reading(alloc, "g.txt", "C1/o")?
-    })?;
-    let text = held_text(alloc, b"X", &PhaseNow::At(name(alloc, "S2")?), &table)?;
-    let wanted = "X at S2\n  open f C2/p r none\n  open g.txt C1/o rw w\n";
-    assert_eq!(rt; text.as_slice(), wanted.as_bytes());
-    Ok(())
-}
-
-#[test]
-fn an_outcome_alone_is_one_line(rt: HostRuntime) -> Result<(), Fail> {
-    let alloc = rt.alloc();
-    let told = Told::Answered(OpStatus::StaleClientId);
-    let text = line_text(alloc, &outcome(alloc, "C9", Verb::Open, told)?)?;
-    assert_eq!(rt; text.as_slice(), "C9 open STALE_CLIENTID\n".as_bytes());
-    Ok(())
+fn bytes(alloc: Global, text: &[u8]) -> Result<Bytes, Memory> {
+    Items::from_slice(alloc, text)
 }
 
 /// A report of that row alone.
@@ -96,133 +21,228 @@ fn report(alloc: Global, row: ReportRow) -> Result<Report, Memory> {
     Ok(report)
 }
 
+fn read(alloc: Global, data: &[u8], eof: bool) -> Result<Told, Memory> {
+    let data = bytes(alloc, data)?;
+    Ok(Told::Read(ReadOk { eof, data }))
+}
+
+fn listed(alloc: Global, names: &[&[u8]]) -> Result<Told, Memory> {
+    let mut list = Names::new(alloc);
+    for name in names {
+        list.push(bytes(alloc, name)?)?;
+    }
+    Ok(Told::Listed(list))
+}
+
+/// What clients are told, by numbers.
+fn told(alloc: Global, number: usize) -> Result<(Verb, Told), Memory> {
+    Ok(match number {
+        0 => (Verb::Create, Told::Answered(OpStatus::Nfs4Ok)),
+        1 => (Verb::Open, Told::Answered(OpStatus::ShareDenied)),
+        2 => (Verb::Close, Told::Answered(OpStatus::Delay)),
+        3 => (Verb::Create, Told::Refused(OpStatus::Stale)),
+        4 => (Verb::Close, Told::NoState),
+        5 => (Verb::Remove, Told::Busy),
+        6 => (Verb::MkDir, Told::Delayed),
+        7 => (Verb::Size, Told::Stopped),
+        8 => (Verb::Write, Told::Wrote(2)),
+        9 => (Verb::Write, Told::Wrote(u32::MAX)),
+        10 => (Verb::Read, read(alloc, b"hi", true)?),
+        11 => (Verb::Read, read(alloc, b"\x00\x7f\xff", false)?),
+        12 => (Verb::Read, read(alloc, b"", true)?),
+        13 => (Verb::Read, read(alloc, b"", false)?),
+        14 => (Verb::List, listed(alloc, &[b"d", b"e"])?),
+        15 => (Verb::List, listed(alloc, &[b"a.txt"])?),
+        _ => (Verb::List, listed(alloc, &[])?),
+    })
+}
+
+fn outcome(alloc: Global, number: usize) -> Result<Report, Memory> {
+    let client = bytes(alloc, b"C1")?;
+    let (verb, told) = told(alloc, number)?;
+    let row = OutcomeRow { client, verb, told };
+    report(alloc, ReportRow::Outcome(row))
+}
+
+fn outcomes(alloc: Global) -> Result<Vec<u8>, Memory> {
+    let mut out = Vec::new(alloc);
+    for number in 0..17 {
+        append_line_text(&mut out, &outcome(alloc, number)?)?;
+    }
+    Ok(out)
+}
+
 #[test]
 fn what_a_client_was_told(rt: HostRuntime) -> Result<(), Fail> {
-    let alloc = rt.alloc();
-    let mut out = Vec::new(alloc);
-    for told in [
-        Told::Answered(OpStatus::Nfs4Ok),
-        Told::Answered(OpStatus::Delay),
-        Told::Refused(OpStatus::Stale),
-        Told::NoState,
-        Told::Busy,
-        Told::Delayed,
-        Told::Stopped,
-    ] {
-        append_line_text(&mut out, &outcome(alloc, "C1", Verb::Create, told)?)?;
-    }
-    let client = name(alloc, "C1")?;
-    append_line_text(
-        &mut out,
-        &report(alloc, ReportRow::Idle(IdleRow { client }))?,
-    )?;
-    let wanted = "C1 create OK\nC1 create DELAY\nC1 create REFUSED STALE\nC1 create NOSTATE\n\
-        C1 create BUSY\nC1 create DELAY\nC1 create STOPPED\nC1 idle\n";
-    assert_eq!(rt; out.as_slice(), wanted.as_bytes());
+    let text = outcomes(rt.alloc())?;
+    let wanted = b"C1 create OK\nC1 open SHARE_DENIED\nC1 close DELAY\nC1 create REFUSED STALE\n\
+        C1 close NOSTATE\nC1 remove BUSY\nC1 mkdir DELAY\nC1 size STOPPED\n\
+        C1 write OK 2\nC1 write OK 4294967295\n\
+        C1 read OK 6869 eof\nC1 read OK 007fff more\nC1 read OK - eof\nC1 read OK - more\n\
+        C1 list OK d e\nC1 list OK a.txt\nC1 list OK\n";
+    assert_eq!(rt; text.as_slice(), wanted.as_slice());
     Ok(())
 }
 
 fn move_from_s1(alloc: Global, number: u64) -> Result<MoveNames, Memory> {
     Ok(MoveNames {
-        source: name(alloc, "S1")?,
-        dest: name(alloc, "S2")?,
+        source: bytes(alloc, b"S1")?,
+        dest: bytes(alloc, b"S2")?,
         number: MoveNum::new(number),
     })
 }
 
-#[test]
-fn a_move_by_its_phases(rt: HostRuntime) -> Result<(), Fail> {
-    let alloc = rt.alloc();
+/// The phases, by numbers.
+fn phase(alloc: Global, number: usize) -> Result<PhaseNow, Memory> {
+    Ok(match number {
+        0 => PhaseNow::At(bytes(alloc, b"S1")?),
+        1 => PhaseNow::Closing(move_from_s1(alloc, 1)?),
+        2 => PhaseNow::Frozen(move_from_s1(alloc, 2)?),
+        _ => PhaseNow::Passing(move_from_s1(alloc, u64::MAX)?),
+    })
+}
+
+/// What comes of moves, by numbers.
+fn move_told(alloc: Global, number: usize) -> Result<MoveTold, Memory> {
+    let known = MoveNum::new(1);
+    Ok(match number {
+        0 => MoveTold::NotServed,
+        1 => MoveTold::Busy(known),
+        2 => MoveTold::Same,
+        3 => MoveTold::Last,
+        4 => MoveTold::Waiting(2),
+        5 => MoveTold::Idle,
+        6 => MoveTold::Back(bytes(alloc, b"S1")?),
+        7 => MoveTold::Late(bytes(alloc, b"S2")?),
+        8 => MoveTold::Refused(Cause::BadImage { at: 128 }),
+        9 => MoveTold::Refused(Cause::Old { known }),
+        10 => MoveTold::Refused(Cause::Live),
+        11 => MoveTold::Refused(Cause::Differs { here: 7, there: 8 }),
+        12 => MoveTold::Refused(Cause::Full),
+        _ => MoveTold::Refused(Cause::Absent),
+    })
+}
+
+/// The rows of moves, by numbers: a phase, then what comes of a move, and then those that have nothing to tell.
+fn move_row(alloc: Global, number: usize) -> Result<ReportRow, Memory> {
+    if number == 18 {
+        return Ok(ReportRow::NoPacket);
+    }
+    let file_system = bytes(alloc, b"X")?;
+    if number < 4 {
+        let phase = phase(alloc, number)?;
+        return Ok(ReportRow::Phase(PhaseReport { file_system, phase }));
+    }
+    let told = move_told(alloc, number - 4)?;
+    Ok(ReportRow::Move(MoveRow { file_system, told }))
+}
+
+fn move_rows(alloc: Global) -> Result<Vec<u8>, Memory> {
     let mut out = Vec::new(alloc);
-    for phase in [
-        PhaseNow::At(name(alloc, "S1")?),
-        PhaseNow::Closing(move_from_s1(alloc, 1)?),
-        PhaseNow::Frozen(move_from_s1(alloc, 2)?),
-        PhaseNow::Passing(move_from_s1(alloc, u64::MAX)?),
-    ] {
-        let file_system = name(alloc, "X")?;
-        let row = ReportRow::Phase(PhaseReport { file_system, phase });
+    for number in 0..19 {
+        let row = move_row(alloc, number)?;
         append_line_text(&mut out, &report(alloc, row)?)?;
     }
-    append_line_text(&mut out, &report(alloc, ReportRow::NoPacket)?)?;
-    let wanted = "X at S1\nX closing S1 S2 move 1\nX frozen S1 S2 move 2\n\
-        X passing S1 S2 move 18446744073709551615\nno packet\n";
-    assert_eq!(rt; out.as_slice(), wanted.as_bytes());
-    Ok(())
+    Ok(out)
 }
 
 #[test]
-fn a_table_on_its_way(rt: HostRuntime) -> Result<(), Fail> {
-    let alloc = rt.alloc();
-    let mut table = Items::new(alloc);
-    table.push(reading(alloc, "f", "C2/p")?)?;
-    let phase = PhaseNow::Passing(move_from_s1(alloc, 1)?);
-    let text = held_text(alloc, b"X", &phase, &table)?;
-    let wanted = "X passing S1 S2 move 1\n  open f C2/p r none\n";
-    assert_eq!(rt; text.as_slice(), wanted.as_bytes());
-    Ok(())
-}
-
-#[test]
-fn what_came_of_a_move(rt: HostRuntime) -> Result<(), Fail> {
-    let alloc = rt.alloc();
-    let mut out = Vec::new(alloc);
-    for told in [
-        MoveTold::NotServed,
-        MoveTold::Busy(MoveNum::new(1)),
-        MoveTold::Same,
-        MoveTold::Last,
-        MoveTold::Waiting(2),
-        MoveTold::Idle,
-        MoveTold::Back(name(alloc, "S1")?),
-        MoveTold::Late(name(alloc, "S2")?),
-        MoveTold::Refused(Cause::BadImage { at: 128 }),
-        MoveTold::Refused(Cause::Old {
-            known: MoveNum::new(1),
-        }),
-        MoveTold::Refused(Cause::Live),
-        MoveTold::Refused(Cause::Differs { here: 7, there: 8 }),
-        MoveTold::Refused(Cause::Full),
-        MoveTold::Refused(Cause::Absent),
-    ] {
-        let file_system = name(alloc, "X")?;
-        let row = ReportRow::Move(MoveRow { file_system, told });
-        append_line_text(&mut out, &report(alloc, row)?)?;
-    }
-    let wanted =
-        "X notserved\nX busy 1\nX same\nX last\nX waiting 2\nX idle\nX back S1\nX late S2\n\
+fn moves_by_their_phases_and_what_came_of_them(rt: HostRuntime) -> Result<(), Fail> {
+    let text = move_rows(rt.alloc())?;
+    let wanted = b"X at S1\nX closing S1 S2 move 1\nX frozen S1 S2 move 2\n\
+        X passing S1 S2 move 18446744073709551615\n\
+        X notserved\nX busy 1\nX same\nX last\nX waiting 2\nX idle\nX back S1\nX late S2\n\
         X refused BADIMAGE 128\nX refused OLD 1\nX refused LIVE\nX refused DIFFERS 7 8\nX refused FULL\n\
-        X refused ABSENT\n";
-    assert_eq!(rt; out.as_slice(), wanted.as_bytes());
+        X refused ABSENT\nno packet\n";
+    assert_eq!(rt; text.as_slice(), wanted.as_slice());
     Ok(())
+}
+
+fn opened(
+    alloc: Global,
+    file: &[u8],
+    owner: &[u8],
+    access: u32,
+    deny: u32,
+) -> Result<HeldRow, Fail> {
+    let principal = Principal { flavor: 1, uid: 1 };
+    let instance = Instance::make(b"nfsmove/C2", 7, principal)?;
+    Ok(HeldRow {
+        counter: 2,
+        seqid: 1,
+        file: 16,
+        name: bytes(alloc, file)?,
+        instance,
+        owner: bytes(alloc, owner)?,
+        row: HeldKind::Open { access, deny },
+    })
+}
+
+fn table(alloc: Global) -> Result<HeldTable, Fail> {
+    let mut table = Items::new(alloc);
+    table.push(opened(alloc, b"f", b"C2/p", 1, 0)?)?;
+    table.push(opened(alloc, b"g.txt", b"C1/o", 3, 2)?)?;
+    Ok(table)
+}
+
+/// The same table through the row of a report, and without one.
+fn held(alloc: Global, number: usize) -> Result<Vec<u8>, Fail> {
+    let table = table(alloc)?;
+    let phase = phase(alloc, number)?;
+    if number == 0 {
+        let file_system = bytes(alloc, b"X")?;
+        let row = HeldReport {
+            file_system,
+            phase,
+            table,
+        };
+        return Ok(line_text(alloc, &report(alloc, ReportRow::Held(row))?)?);
+    }
+    Ok(held_text(alloc, b"X", &phase, &table)?)
+}
+
+fn idle(alloc: Global) -> Result<Vec<u8>, Memory> {
+    let client = bytes(alloc, b"C9")?;
+    line_text(alloc, &report(alloc, ReportRow::Idle(IdleRow { client }))?)
+}
+
+#[test]
+fn tables_and_idle_clients(rt: HostRuntime) -> Result<(), Fail> {
+    let text = held(rt.alloc(), 0)?;
+    let wanted = b"X at S1\n  open f C2/p r none\n  open g.txt C1/o rw w\n";
+    assert_eq!(rt; text.as_slice(), wanted.as_slice());
+    let text = held(rt.alloc(), 1)?;
+    let wanted = b"X closing S1 S2 move 1\n  open f C2/p r none\n  open g.txt C1/o rw w\n";
+    assert_eq!(rt; text.as_slice(), wanted.as_slice());
+    let text = idle(rt.alloc())?;
+    assert_eq!(rt; text.as_slice(), b"C9 idle\n".as_slice());
+    Ok(())
+}
+
+const FAULTS: [(u64, Why, &[u8]); 6] = [
+    (1, Why::Head, b"line 1: head\n"),
+    (3, Why::Number, b"line 3: number\n"),
+    (20, Why::Limit, b"line 20: limit\n"),
+    (100, Why::Bytes, b"line 100: bytes\n"),
+    (65536, Why::Word, b"line 65536: word\n"),
+    (u64::MAX, Why::Name, b"line 18446744073709551615: name\n"),
+];
+
+/// The first of the faults whose text is another.
+fn other_text(alloc: Global, table: &[(u64, Why, &'static [u8])]) -> Result<Option<u64>, Memory> {
+    for (line, why, wanted) in table {
+        if fault_text(alloc, *line, *why)?.as_slice() != *wanted {
+            return Ok(Some(*line));
+        }
+    }
+    Ok(None)
 }
 
 #[test]
 fn a_refused_script_names_the_line_and_why(rt: HostRuntime) -> Result<(), Fail> {
-    let alloc = rt.alloc();
-    let table = [
-        (1, Why::Head, "line 1: head\n"),
-        (3, Why::Number, "line 3: number\n"),
-        (20, Why::Limit, "line 20: limit\n"),
-        (100, Why::Bytes, "line 100: bytes\n"),
-        (65536, Why::Word, "line 65536: word\n"),
-        (
-            18446744073709551615,
-            Why::Name,
-            "line 18446744073709551615: name\n",
-        ),
-    ];
-    for (line, why, wanted) in table {
-        let text = fault_text(alloc, line, why)?;
-        assert_eq!(rt; text.as_slice(), wanted.as_bytes());
-    }
-    Ok(())
-}
-
-#[test]
-fn the_usage_names_both_commands(rt: HostRuntime) -> Result<(), Fail> {
+    assert_eq!(rt; other_text(rt.alloc(), &FAULTS)?, None);
     let text = usage_text(rt.alloc())?;
-    let wanted = "usage: nfsmove replay | nfsmove live\n";
-    assert_eq!(rt; text.as_slice(), wanted.as_bytes());
+    let wanted = b"usage: nfsmove replay | nfsmove live\n";
+    assert_eq!(rt; text.as_slice(), wanted.as_slice());
     Ok(())
 }
