@@ -2,7 +2,12 @@
 #![tactic(auto)]
 
 mod bytes;
+mod calls;
+mod checks;
+mod listing;
+mod names;
 mod rows;
 mod tree;
 
+pub use listing::{Listed, Listing};
 pub use tree::Tree;
