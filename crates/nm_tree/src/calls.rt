@@ -17,13 +17,17 @@ use nm_rules::{Bytes, FileAttrs, FileKind, FileRow, OpStatus, Refusal};
 
 // The last number of a change or a file.
 const LAST_NUMBER: u64 = 1 << 63;
-// The files and directories of a file system, and the bytes of a file, of all files and of one read or write.
+
+// The files and directories of a file system.
 const FILES_LIMIT: usize = 4096;
 
+// The bytes of a file.
 const SIZE_LIMIT: u64 = 1_048_576;
 
+// The bytes of all files.
 const TOTAL_LIMIT: u64 = 67_108_864;
 
+// The bytes of one write.
 const TRANSFER_LIMIT: usize = 65_536;
 
 impl Tree {
