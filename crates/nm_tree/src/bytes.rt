@@ -1,6 +1,7 @@
 //! The bytes of a file, made anew.
-ghost use Rattle.std.specs.Prelude.{◌≡◌, ◌≤◌, ◌+◌, ◌++◌, length, take, drop, replicate, IfOk, OnOk};
-ghost use Rattle.nm_rules.specs.Contents.{sized, written, size_limit};
+ghost use Rattle.std.specs.Prelude.{◌≡◌, ◌≤◌, ◌+◌, ◌++◌, length, take, drop, min, replicate, IfOk, OnOk};
+ghost use Rattle.nm_rules.specs.Contents.{part, sized, written, size_limit, transfer_limit};
+ghost use Rattle.nm_tree.specs.Answers.{read_part};
 
 use nm_rules::{Bytes, Memory};
 use std::alloc::Global;
@@ -73,4 +74,27 @@ pub fn written_bytes(
     append(&mut out, new)?;
     append(&mut out, behind(bytes, offset + new.len()))?;
     Ok(out)
+}
+
+// At most 64 KiB from an offset on, or as many as there are.
+#[tactic(auto, unfolding(nm_rules::specs::Contents::part))]
+fn part_of(bytes: &[u8], offset: u64, count: u32) -> &[u8]
+    ensures { result.now ≡ part offset (min count transfer_limit) bytes.now }
+{
+    front(behind(bytes, offset as usize), count.min(65_536) as usize)
+}
+
+/// What a read gives: at most 64 KiB, and whether the file ends with them.
+#[tactic(auto, using(crate::proofs::CallLemmas::ends_there), unfolding(crate::specs::Answers::read_part))]
+pub fn read_bytes(
+    alloc: Global,
+    bytes: &[u8],
+    offset: u64,
+    count: u32,
+) -> Result<(Bytes, bool), Memory>
+    ensures { IfOk result (λ read. read ≡ read_part offset count bytes.now) }
+{
+    let part = part_of(bytes, offset, count);
+    let ends = (bytes.len() as u64).saturating_sub(part.len() as u64) <= offset;
+    Ok((Bytes::from_slice(alloc, part)?, ends))
 }

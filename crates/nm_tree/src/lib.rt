@@ -2,7 +2,14 @@
 #![tactic(auto)]
 
 mod bytes;
+mod calls;
+mod checks;
+mod listing;
+mod names;
 mod rows;
+#[cfg(test)]
+mod tests;
 mod tree;
 
+pub use listing::{Listed, Listing};
 pub use tree::Tree;

@@ -2,6 +2,9 @@
 ghost use Rattle.std.specs.Prelude.{◌≡◌, ◌≤◌, ◌+◌, ◌++◌, [], ◌∷◌, length, IfOk, OnOk, OnErr, map, filter, not, option_copied, position, Some, None};
 ghost use Rattle.nm_rules.specs.Contents.{file_at, child_at, is_named, total_size, total_limit, size_limit, stamped, edited_at, root_row};
 ghost use Rattle.nm_rules.specs.Contents.FileEdit.{Wrote, Set};
+ghost use Rattle.nm_rules.specs.Files.{size_of};
+ghost use Rattle.nm_rules.specs.Past.{parent_of};
+ghost use Rattle.nm_tree.specs.Answers.{bytes_at};
 ghost use Rattle.nm_tree.specs.Rows.{has_number, put_first, edit_first, resized};
 
 use crate::bytes::{sized_bytes, written_bytes};
@@ -14,6 +17,37 @@ pub fn find_at(rows: &[FileRow], number: u64) -> Option<&FileRow>
     ensures { option_copied result ≡ file_at number rows.now }
 {
     rows.iter().find(|row| row.number == number)
+}
+
+/// The bytes of the file of that number, none where it isn't there.
+#[tactic(auto, unfolding(crate::specs::Answers::bytes_at))]
+pub fn bytes_at(rows: &[FileRow], number: u64) -> &[u8]
+    ensures { result.now ≡ bytes_at number rows.now }
+{
+    match find_at(rows, number) {
+        Some(row) => row.bytes.items(),
+        None => &[],
+    }
+}
+
+/// Their count.
+pub fn size_at(rows: &[FileRow], number: u64) -> u64
+    ensures { result ≡ size_of (file_at number rows.now) }
+{
+    match find_at(rows, number) {
+        Some(row) => row.bytes.items().len() as u64,
+        None => 0,
+    }
+}
+
+/// The directory of the file of that number, 0 where it isn't there.
+pub fn parent_at(rows: &[FileRow], number: u64) -> u64
+    ensures { result ≡ parent_of (file_at number rows.now) }
+{
+    match find_at(rows, number) {
+        Some(row) => row.parent,
+        None => 0,
+    }
 }
 
 /// Whether the row has that name in that directory.

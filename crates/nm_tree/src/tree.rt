@@ -47,10 +47,16 @@ impl Tree {
         })
     }
 
+    /// The allocator that the rows are kept with.
+    pub(crate) fn allocator(&self) -> Global {
+        *self.rows.allocator()
+    }
+
     /// The files and directories, by rising number.
     pub fn rows(&self) -> &[FileRow]
         ensures table { result.now ≡ self.now.table }
         ensures rising { files_rise 0 self.now.last_file self.now.table ≡ true }
+        ensures within { total_size self.now.table ≤ total_limit }
     {
         &self.rows
     }
@@ -58,7 +64,7 @@ impl Tree {
     /// The greatest number that a file was given, 15 where none was. It is at most 2^63.
     pub fn last_file(&self) -> u64
         ensures value { result ≡ self.now.last_file }
-        ensures bound { self.now.last_file ≤ 2 ^ 63 }
+        ensures bound { result ≤ 2 ^ 63 }
     {
         self.last_file
     }
@@ -66,7 +72,7 @@ impl Tree {
     /// The number of the latest change, 0 before the first. It is at most 2^63.
     pub fn change(&self) -> u64
         ensures value { result ≡ self.now.change }
-        ensures bound { self.now.change ≤ 2 ^ 63 }
+        ensures bound { result ≤ 2 ^ 63 }
     {
         self.change
     }
@@ -81,7 +87,7 @@ impl Tree {
     /// The bytes of all files. They are at most 64 MiB.
     pub fn total_size(&self) -> u64
         ensures value { result ≡ total_size self.now.table }
-        ensures bound { total_size self.now.table ≤ total_limit }
+        ensures bound { result ≤ total_limit }
     {
         total(&self.rows)
     }
@@ -104,9 +110,9 @@ impl Tree {
     /// memory nothing has changed.
     #[tactic(auto, unfolding(nm_rules::specs::Contents::tree_after))]
     pub fn add(&mut self, row: FileRow) -> Result<(), Memory>
-        requires next { row.number ≡ self.old.last_file + 1 }
-        requires files { self.old.last_file < 2 ^ 63 }
-        requires changes { self.old.change < 2 ^ 63 }
+        requires number { row.number ≡ self.old.last_file + 1 }
+        requires file { self.old.last_file < 2 ^ 63 }
+        requires change { self.old.change < 2 ^ 63 }
         requires room { total_size self.old.table + length row.bytes ≤ total_limit }
 
         ensures ok { OnOk result (self.new ≡ tree_after (Made row) self.old) }
@@ -128,7 +134,7 @@ impl Tree {
         offset: u64,
         bytes: &[u8],
     ) -> Result<(), Memory>
-        requires changes { self.old.change < 2 ^ 63 }
+        requires change { self.old.change < 2 ^ 63 }
         requires fits { offset + length bytes.now ≤ size_limit }
         requires room { total_with number (max (size_of (file_at number self.old.table)) (offset + length bytes.now)) self.old.table ≤ total_limit }
 
@@ -157,7 +163,7 @@ impl Tree {
         size: Option<u64>,
         mode: Option<u32>,
     ) -> Result<(), Memory>
-        requires changes { self.old.change < 2 ^ 63 }
+        requires change { self.old.change < 2 ^ 63 }
         requires room { IfSome size (λ n. total_with number n self.old.table ≤ total_limit) }
 
         ensures ok { OnOk result (self.new ≡ tree_after (Edited dir number (Set size mode)) self.old) }
@@ -171,7 +177,7 @@ impl Tree {
     /// That name goes from a directory, which takes the number of the change.
     #[tactic(auto, unfolding(nm_rules::specs::Contents::tree_after))]
     pub fn drop_name(&mut self, dir: u64, name: &[u8])
-        requires changes { self.old.change < 2 ^ 63 }
+        requires change { self.old.change < 2 ^ 63 }
 
         ensures { self.new ≡ tree_after (Removed dir name.now) self.old }
     {
