@@ -66,7 +66,6 @@ rest_at : (rows : List FileRow) (i : ℕ) (row : FileRow) → i < length rows �
 rest_at rows i row inside it = drop_more rows i row inside ∙ ap (λ x. x ∷ drop (i + 1) rows) (sym it)
 
 module _ (dir cookie : ℕ) (asks : Bool) (room : ℕ) (rows : List FileRow) where
-
   pub front_start : IsFront dir cookie asks room rows [] room rows
   front_start = record { told = refl; count = omega arith }
 

@@ -27,7 +27,11 @@ const SIZE_LIMIT: u64 = 1 << 20;
 fn read_of(alloc: Global, args: &ReadArgs, bytes: &[u8]) -> Result<ReadOk, Memory>
     ensures { IfOk result (λ value. value ≡ read_of args.now bytes.now) }
 {
-    let found = part(bytes, args.offset, (args.count as usize).min(TRANSFER_LIMIT));
+    let found = part(
+        bytes,
+        args.offset,
+        (args.count as usize).min(TRANSFER_LIMIT),
+    );
     let before = (bytes.len() as u64).saturating_sub(found.len() as u64);
     Ok(ReadOk {
         eof: before <= args.offset,
@@ -37,7 +41,7 @@ fn read_of(alloc: Global, args: &ReadArgs, bytes: &[u8]) -> Result<ReadOk, Memor
 
 // The size that a WRITE within the limit leaves.
 fn written_size(row: Option<&FileRow>, args: &WriteArgs) -> u64
-    requires { args.now.offset + length (taken args.now.data) ≤ size_limit }
+    requires { args.now.offset + length (taken args.now.«data») ≤ size_limit }
     ensures { result ≡ written_size (option_copied row.entry) args.now }
 {
     let bytes = taken(args.data.items());

@@ -4,11 +4,14 @@
 
 mod attributes;
 mod checks;
+mod claims;
+mod closes;
 mod data;
 #[cfg(test)]
 mod file_tests;
 mod holders;
 mod listing;
+mod making;
 mod names;
 mod opens;
 mod parts;

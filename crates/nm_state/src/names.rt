@@ -346,8 +346,10 @@ impl Tables {
     {
         match file {
             None => None,
-            Some(file) => refuse_if(self.is_open(file), OpStatus::FileOpen)
-                .or(refuse_if(self.has_entries(file), OpStatus::NotEmpty)),
+            Some(file) => refuse_if(self.is_open(file), OpStatus::FileOpen).or(refuse_if(
+                self.has_entries(file),
+                OpStatus::NotEmpty,
+            )),
         }
     }
 

@@ -242,9 +242,11 @@ pub fn no_files(alloc: Global) -> Result<FsState, Fail> {
 fn reply(state: &mut FsState, event: &Event) -> Result<Reply, Fail> {
     let told = state.answer(event)?;
     let reply = state.apply(event)?;
-    Ok((told == reply)
-        .then_some(reply)
-        .ok_or("it is answered as was told")?)
+    Ok(
+        (told == reply)
+            .then_some(reply)
+            .ok_or("it is answered as was told")?,
+    )
 }
 
 /// Carries these out.

@@ -1,5 +1,5 @@
 use Rattle.std.proofs.Common.{◌≡◌, replicate}
-use Rattle.nm_state.proofs.opens.zeros.Given as goal
+use Rattle.nm_state.proofs.making.zeros.Given as goal
 
 -- as many zeros as were counted
 abbrev pub invariant-loop : goal.invariant-loop
