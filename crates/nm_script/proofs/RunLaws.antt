@@ -9,6 +9,7 @@ use Rattle.std.proofs.lemmas.List.Sums.{position_or_len_is}
 use Rattle.std.proofs.lemmas.List.Quantifiers.{position-Some}
 use Rattle.nm_rules.specs.declared.action.Action.{Action}
 use Rattle.nm_rules.specs.declared.action.Action.TheVariants.{Open, Create, Close}
+use Rattle.nm_rules.specs.declared.action.Action.TheVariants as acts
 use Rattle.nm_rules.specs.declared.action.OpenAction.{OpenAction}
 use Rattle.nm_rules.specs.declared.action.CloseAction.{CloseAction}
 use Rattle.nm_script.specs.declared.script.Head.{Head}
@@ -308,6 +309,12 @@ unfolding run_line do_at action_line finish_line fs_at fs_line fs_to_line action
 run_again head (Do client (Open a)) names is = rw (open_again head a names is.1, client_again head client names is.0) refl
 run_again head (Do client (Create a)) names is = rw (open_again head a names is.1, client_again head client names is.0) refl
 run_again head (Do client (Close a)) names is = rw (close_again head a names is.1, client_again head client names is.0) refl
+run_again head (Do client (acts.Read a)) names is = absurd is.1
+run_again head (Do client (acts.Write a)) names is = absurd is.1
+run_again head (Do client (acts.Size a)) names is = absurd is.1
+run_again head (Do client (acts.Remove a)) names is = absurd is.1
+run_again head (Do client (acts.MkDir a)) names is = absurd is.1
+run_again head (Do client (acts.List fs)) names is = absurd is.1
 run_again head (Finish client) names is = rw (client_again head client names is) refl
 run_again head (Move fs to) names is = rw (file_system_again head fs names is.0, server_again head to names is.1) refl
 run_again head (Freeze fs) names is = rw (file_system_again head fs names is) refl
@@ -345,6 +352,12 @@ run_are_words head (Do client (Close a)) names is = (
     ),
   ),
 )
+run_are_words head (Do client (acts.Read a)) names is = absurd is.1
+run_are_words head (Do client (acts.Write a)) names is = absurd is.1
+run_are_words head (Do client (acts.Size a)) names is = absurd is.1
+run_are_words head (Do client (acts.Remove a)) names is = absurd is.1
+run_are_words head (Do client (acts.MkDir a)) names is = absurd is.1
+run_are_words head (Do client (acts.List fs)) names is = absurd is.1
 run_are_words head (Finish client) names is = (keyword (codes "do") (omega arith) refl, (client_is_word head client names is, (keyword (codes "finish") (omega arith) refl, tt)))
 run_are_words head (Move fs to) names is = fs_to_are_words head (codes "move") fs to names (keyword (codes "move") (omega arith) refl) is.0 is.1
 run_are_words head (Freeze fs) names is = fs_are_words head (codes "freeze") fs names (keyword (codes "freeze") (omega arith) refl) is

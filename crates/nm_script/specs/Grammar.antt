@@ -1,6 +1,6 @@
 -- The grammar of scripts: which bytes spell which script. It stands apart from the reader, and goes from a script to
 -- its text: `IsScript`, at the end, is the whole of it.
-use Rattle.std.specs.Prelude.{◌≡◌, ℕ, ◌^◌, ◌<◌, ◌≤◌, Bool, true, false, not, ◌&&◌, ◌||◌, ◌==◌, List, [], ◌∷◌, ◌++◌, length, map, filter, All, slice_index_or, if◌then◌else◌, codes}
+use Rattle.std.specs.Prelude.{⊥, ◌≡◌, ℕ, ◌^◌, ◌<◌, ◌≤◌, Bool, true, false, not, ◌&&◌, ◌||◌, ◌==◌, List, [], ◌∷◌, ◌++◌, length, map, filter, All, slice_index_or, if◌then◌else◌, codes}
 use Rattle.std.specs.List.{list_any, list_all, join_with_byte}
 use Rattle.std.specs.Str.{bytes_eq}
 use Rattle.std.specs.Fmt.{decimal}
@@ -68,6 +68,7 @@ abbrev pub action_words : Head → Action → List (List ℕ)
 action_words head (Open a) = codes "open" ∷ open_words head a
 action_words head (Create a) = codes "create" ∷ open_words head a
 action_words head (Close a) = codes "close" ∷ close_words head a
+action_words head _ = []
 
 -- VERB F
 abbrev pub fs_words : Head → List ℕ → ℕ → List (List ℕ)
@@ -178,6 +179,7 @@ abbrev pub IsAction : Head → Action → Type 0
 IsAction head (Open a) = IsOpen head a
 IsAction head (Create a) = IsOpen head a
 IsAction head (Close a) = IsClose head a
+IsAction head _ = ⊥
 
 -- the client, the file system and the server are of the head
 abbrev pub IsRun : Head → Line → Type 0

@@ -1,11 +1,13 @@
 -- The printed text of what clients were told.
-use Rattle.std.specs.Prelude.{ℕ, List, ◌++◌, codes}
+use Rattle.std.specs.Prelude.{ℕ, Bool, true, false, List, [], ◌∷◌, ◌++◌, codes, decimal, flat_map}
+use Rattle.hex.specs.Hex.{encode_lower}
 use Rattle.nm_rules.specs.declared.action.Verb.{Verb}
-use Rattle.nm_rules.specs.declared.action.Verb.TheVariants.{Open, Create, Close}
+use Rattle.nm_rules.specs.declared.action.Verb.TheVariants as verbs
+use Rattle.nm_rules.specs.declared.results.ReadOk.{ReadOk}
 use Rattle.nm_rules.specs.declared.status.OpStatus.{OpStatus}
 use Rattle.nm_rules.specs.declared.status.OpStatus.TheVariants.{Nfs4Ok, NoEnt, Exist, NotDir, IsDir, Inval, FBig, NoSpc, NameTooLong, NotEmpty, Stale, BadHandle, NotSupp, TooSmall, ServerFault, BadType, Delay, Denied, Expired, Locked, Grace, ShareDenied, ClidInUse, Resource, Moved, NoFileHandle, MinorVersMismatch, StaleClientId, StaleStateId, OldStateId, BadStateId, BadSeqid, NotSame, RestoreFh, LeaseMoved, AttrNotSupp, NoGrace, BadXdr, LocksHeld, OpenMode, BadName, OpIllegal, FileOpen}
 use Rattle.nm_script.specs.declared.report.Told.{Told}
-use Rattle.nm_script.specs.declared.report.Told.TheVariants.{Answered, Refused, NoState, Busy, Delayed, Stopped}
+use Rattle.nm_script.specs.declared.report.Told.TheVariants.{Answered, Wrote, Read, Listed, Refused, NoState, Busy, Delayed, Stopped}
 use Rattle.nm_script.specs.declared.report.OutcomeRow.{OutcomeRow}
 use Rattle.nm_script.specs.declared.report.IdleRow.{IdleRow}
 use Rattle.nm_script.specs.Writing.{line_feed}
@@ -57,13 +59,41 @@ status_text OpIllegal = codes "OP_ILLEGAL"
 status_text FileOpen = codes "FILE_OPEN"
 
 unfoldable pub verb_text : Verb → List ℕ
-verb_text Open = codes "open"
-verb_text Create = codes "create"
-verb_text Close = codes "close"
+verb_text verbs.Open = codes "open"
+verb_text verbs.Create = codes "create"
+verb_text verbs.Close = codes "close"
+verb_text verbs.Read = codes "read"
+verb_text verbs.Write = codes "write"
+verb_text verbs.Size = codes "size"
+verb_text verbs.Remove = codes "remove"
+verb_text verbs.MkDir = codes "mkdir"
+verb_text verbs.List = codes "list"
 
--- what a client was told: a status, that of another operation of the request, or why none came
+-- two hexadecimal digits for each byte, or `-` where there are none
+unfoldable pub data_text : List ℕ → List ℕ
+data_text [] = codes "-"
+data_text (first ∷ bytes) = encode_lower (first ∷ bytes)
+
+-- whether a file ends with what was read
+unfoldable pub end_text : Bool → List ℕ
+end_text true = codes "eof"
+end_text false = codes "more"
+
+-- what was read: `HEX eof` or `HEX more`
+unfoldable pub read_text : ReadOk → List ℕ
+read_text ok = data_text ok.data ++ codes " " ++ end_text ok.eof
+
+-- a name behind others
+unfoldable pub name_text : List ℕ → List ℕ
+name_text name = codes " " ++ name
+
+-- What a client was told: a status, which where it is OK has behind it the count of what was written, what was read or
+-- the names of a directory; the status of another operation of the request; or why none came.
 unfoldable pub told_text : Told → List ℕ
 told_text (Answered status) = status_text status
+told_text (Wrote count) = codes "OK " ++ decimal count
+told_text (Read ok) = codes "OK " ++ read_text ok
+told_text (Listed names) = codes "OK" ++ flat_map name_text names
 told_text (Refused status) = codes "REFUSED " ++ status_text status
 told_text NoState = codes "NOSTATE"
 told_text Busy = codes "BUSY"

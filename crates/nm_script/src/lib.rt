@@ -22,8 +22,8 @@ pub use memory::{MemorySink, MemorySource};
 pub use outside::{Failed, ReadAllFault, Sink, Source, read_all, write_all};
 pub use read::read_script;
 pub use report::{
-    HeldReport, IdleRow, MoveNames, MoveRow, MoveTold, OutcomeRow, PhaseNow, PhaseReport, Report,
-    ReportRow, Told,
+    HeldReport, IdleRow, MoveNames, MoveRow, MoveTold, Names, OutcomeRow, PhaseNow, PhaseReport,
+    Report, ReportRow, Told,
 };
 pub use script::{
     ClientRow, ClientRows, FsRow, FsRows, Head, Line, Lines, Script, ScriptFault, ServerRow,

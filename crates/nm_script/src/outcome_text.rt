@@ -1,11 +1,11 @@
 //! The printed text of what clients were told.
-ghost use Rattle.std.specs.Prelude.{◌≡◌, ◌++◌, OnOk, OnErr};
-ghost use Rattle.nm_script.specs.OutcomeText.{status_text, verb_text, told_text, outcome_text, idle_text};
+ghost use Rattle.std.specs.Prelude.{◌≡◌, ◌++◌, flat_map, OnOk, OnErr};
+ghost use Rattle.nm_script.specs.OutcomeText.{status_text, verb_text, data_text, end_text, read_text, name_text, told_text, outcome_text, idle_text};
 ghost use Rattle.nm_script.specs.Writing.{Stands};
 
-use crate::writing::append;
+use crate::writing::{append, append_number};
 use crate::{IdleRow, OutcomeRow, Told};
-use nm_rules::{Memory, OpStatus, Verb};
+use nm_rules::{Bytes, Memory, OpStatus, ReadOk, Verb};
 
 // The printed word of a status.
 #[tactic(auto, unfolding(crate::specs::OutcomeText::status_text))]
@@ -68,19 +68,88 @@ fn verb_word(verb: Verb) -> &'static [u8]
         Verb::Open => b"open",
         Verb::Create => b"create",
         Verb::Close => b"close",
+        Verb::Read => b"read",
+        Verb::Write => b"write",
+        Verb::Size => b"size",
+        Verb::Remove => b"remove",
+        Verb::MkDir => b"mkdir",
+        Verb::List => b"list",
     }
 }
 
+// The bytes in hexadecimal digits, or `-` where there are none.
+#[tactic(auto, using(crate::proofs::TextLemmas::stands_still), unfolding(crate::specs::OutcomeText::data_text))]
+fn append_data(out: &mut Vec<u8>, bytes: &[u8]) -> Result<(), Memory>
+    ensures ok { OnOk result (out.new.items ≡ out.old.items ++ data_text bytes.now) }
+    ensures err { OnErr result (Stands out.old.items out.new.items) }
+{
+    if bytes.is_empty() {
+        return append(out, b"-");
+    }
+    let digits = hex::encode(*out.allocator(), bytes)?;
+    append(out, digits.as_bytes())
+}
+
+// Whether a file ends with the bytes that were read.
+#[tactic(auto, unfolding(crate::specs::OutcomeText::end_text))]
+fn end_word(eof: bool) -> &'static [u8]
+    ensures { result.now ≡ end_text eof }
+{
+    if eof { b"eof" } else { b"more" }
+}
+
+#[tactic(auto, using(crate::proofs::TextLemmas::stands_more), unfolding(crate::specs::OutcomeText::read_text))]
+fn append_read(out: &mut Vec<u8>, ok: &ReadOk) -> Result<(), Memory>
+    ensures ok { OnOk result (out.new.items ≡ out.old.items ++ read_text ok.now) }
+    ensures err { OnErr result (Stands out.old.items out.new.items) }
+{
+    append_data(out, ok.data.items())?;
+    append(out, b" ")?;
+    append(out, end_word(ok.eof))
+}
+
+#[tactic(auto, using(crate::proofs::TextLemmas::stands_more), unfolding(crate::specs::OutcomeText::name_text))]
+fn append_name(out: &mut Vec<u8>, name: &[u8]) -> Result<(), Memory>
+    ensures ok { OnOk result (out.new.items ≡ out.old.items ++ name_text name.now) }
+    ensures err { OnErr result (Stands out.old.items out.new.items) }
+{
+    append(out, b" ")?;
+    append(out, name)
+}
+
+#[tactic(auto, using(crate::proofs::TextLemmas::stands_more))]
+fn append_listed(out: &mut Vec<u8>, names: &[Bytes]) -> Result<(), Memory>
+    ensures ok { OnOk result (out.new.items ≡ out.old.items ++ flat_map name_text names.now) }
+    ensures err { OnErr result (Stands out.old.items out.new.items) }
+{
+    for name in names {
+        append_name(out, name.items())?;
+    }
+    Ok(())
+}
+
 #[tactic(auto, using(crate::proofs::TextLemmas::stands_more), unfolding(crate::specs::OutcomeText::told_text))]
-fn append_told(out: &mut Vec<u8>, told: Told) -> Result<(), Memory>
-    ensures ok { OnOk result (out.new.items ≡ out.old.items ++ told_text told) }
+fn append_told(out: &mut Vec<u8>, told: &Told) -> Result<(), Memory>
+    ensures ok { OnOk result (out.new.items ≡ out.old.items ++ told_text told.now) }
     ensures err { OnErr result (Stands out.old.items out.new.items) }
 {
     match told {
-        Told::Answered(status) => append(out, status_word(status)),
+        Told::Answered(status) => append(out, status_word(*status)),
+        Told::Wrote(count) => {
+            append(out, b"OK ")?;
+            append_number(out, *count as u64)
+        }
+        Told::Read(ok) => {
+            append(out, b"OK ")?;
+            append_read(out, ok)
+        }
+        Told::Listed(names) => {
+            append(out, b"OK")?;
+            append_listed(out, names.items())
+        }
         Told::Refused(status) => {
             append(out, b"REFUSED ")?;
-            append(out, status_word(status))
+            append(out, status_word(*status))
         }
         Told::NoState => append(out, b"NOSTATE"),
         Told::Busy => append(out, b"BUSY"),
@@ -99,7 +168,7 @@ pub(crate) fn append_outcome(out: &mut Vec<u8>, row: &OutcomeRow) -> Result<(), 
     append(out, b" ")?;
     append(out, verb_word(row.verb))?;
     append(out, b" ")?;
-    append_told(out, row.told)?;
+    append_told(out, &row.told)?;
     append(out, b"\n")
 }
 

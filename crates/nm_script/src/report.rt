@@ -1,11 +1,20 @@
 //! What came of a line, with texts for names: the rows that it prints.
-use nm_rules::{Bytes, Cause, HeldTable, Items, MoveNum, OpStatus, Verb};
+use nm_rules::{Bytes, Cause, HeldTable, Items, MoveNum, OpStatus, ReadOk, Verb};
+
+/// Names of files and directories.
+pub type Names = Items<Bytes>;
 
 /// What a client was told of an action.
-#[derive(Clone, Copy, Debug, PartialEq, Eq)]
+#[derive(Debug, PartialEq, Eq, Drop)]
 pub enum Told {
     /// The status of the operation that decided: `STATUS`.
     Answered(OpStatus),
+    /// So many bytes were written: `OK COUNT`.
+    Wrote(u32),
+    /// What was read, in hexadecimal digits or `-` for no bytes, and whether the file ends there: `OK HEX eof` or `OK HEX more`.
+    Read(ReadOk),
+    /// The names in a directory: `OK` and each of them, or `OK` alone.
+    Listed(Names),
     /// The status of another operation of the request, which failed: `REFUSED STATUS`.
     Refused(OpStatus),
     /// The action needs a stateid that the client hasn't; nothing was sent: `NOSTATE`.
