@@ -1,6 +1,6 @@
 -- The grammar of scripts: which bytes spell which script. It stands apart from the reader, and goes from a script to
 -- its text: `IsScript`, at the end, is the whole of it.
-use Rattle.std.specs.Prelude.{⊥, ◌≡◌, ℕ, ◌^◌, ◌<◌, ◌≤◌, Bool, true, false, not, ◌&&◌, ◌||◌, ◌==◌, List, [], ◌∷◌, ◌++◌, length, map, filter, All, slice_index_or, if◌then◌else◌, codes}
+use Rattle.std.specs.Prelude.{◌≡◌, ℕ, ◌^◌, ◌<◌, ◌≤◌, Bool, true, false, not, ◌&&◌, ◌||◌, ◌==◌, List, [], ◌∷◌, ◌++◌, length, map, filter, All, slice_index_or, if◌then◌else◌, codes}
 use Rattle.std.specs.List.{list_any, list_all, join_with_byte}
 use Rattle.std.specs.Str.{bytes_eq}
 use Rattle.std.specs.Fmt.{decimal}
