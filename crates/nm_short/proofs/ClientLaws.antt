@@ -1,10 +1,10 @@
 -- What a client does is the same over the tables of a file system as over its steps.
-use Rattle.std.proofs.Common.{◌≡◌, ◌≢◌, ◌<◌, ◌≤◌, ℕ, zero, suc, true, Option, Some, None, refl, sym, subst, ap, ◌∙◌, arith, eq-eqb, ⊎_elim}
+use Rattle.std.proofs.Common.{◌≡◌, ◌≢◌, ◌<◌, ◌≤◌, ℕ, zero, suc, true, List, [], ◌++◌, Option, Some, None, refl, sym, subst, ap, ◌∙◌, arith, eq-eqb, ⊎_elim}
 use Rattle.std.proofs.lemmas.Bool.{cases_lt}
 use Rattle.nm_rules.specs.declared.action.Action.{Action}
 use Rattle.nm_rules.specs.declared.calls.Call.{Call}
+use Rattle.nm_rules.specs.declared.calls.Reply.{Reply}
 use Rattle.nm_rules.specs.declared.calls.Verdict.TheVariants.{Pass}
-use Rattle.nm_script.specs.declared.report.Told.TheVariants as told
 use Rattle.nm_slot.specs.declared.answers.Answer.{Answer}
 use Rattle.nm_slot.specs.declared.answers.Enter.{Enter}
 use Rattle.nm_slot.specs.declared.answers.Enter.TheVariants as enter
@@ -12,9 +12,9 @@ use Rattle.nm_slot.specs.Answers.{enter_answer, apply_answer}
 use Rattle.nm_slot.specs.Changes.{slot_after}
 use Rattle.nm_slot.specs.History.{passes_now, is_out}
 use Rattle.nm_slot.specs.SlotNow.SlotStep.{Entering, Leaving, Applying}
-use Rattle.nm_short.specs.Known.{Known, learned, put_down, sent_to, place_of}
-use Rattle.nm_short.specs.ShortRun.{FileNow, Tried, Knocked, at_server, did, knocks, reply_of, calls_at, at_door, tries, requests_limit}
-use Rattle.nm_short.specs.Tables.{FileTables, TriedTo, KnockedTo, no_part, slot_in, stepped, knocks_to, calls_to, door_to, tries_to}
+use Rattle.nm_short.specs.Known.{Known, sent_to, place_of}
+use Rattle.nm_short.specs.ShortRun.{FileNow, Asked, Tried, Knocked, at_server, did, knocks, reply_of, goes_on_with, names_of, asks, after_asking, calls_at, at_door, tries, requests_limit}
+use Rattle.nm_short.specs.Tables.{FileTables, AskedTo, TriedTo, KnockedTo, no_part, slot_in, stepped, knocks_to, asks_to, asked_to, calls_to, door_to, tries_to}
 use Rattle.nm_short.proofs.OrderLaws.{kept_inside}
 use Rattle.nm_short.proofs.Standing.{Stands, IsKeptOutside, plain_stands, slot_outside}
 
@@ -115,23 +115,85 @@ apply_out : (f : FileNow) (s epoch : ℕ) (call : Call) (a : Answer) → passes_
 unfolding passes_now
 apply_out f s epoch call a = rw (eq-eqb s s refl) refl
 
-calls_same : (n : ℕ) (f : FileNow) (t : FileTables) (s epoch client : ℕ) (act : Action) (call : Call) (known : Known) → Stands n f t → s < n
-    → is_out epoch (passes_now f.moments s) ≡ true → IsTried n (calls_at f s epoch client act call known) (calls_to t s epoch client act call known)
-unfolding calls_at calls_to
-calls_same n f t s epoch client act call known stands below out =
+-- the same was asked and listed, what is left stands for the steps, and the pass is out still
+record IsAsked (n s epoch : ℕ) (asked : Asked) (to : AskedTo) : Type 0 where
+  file : Stands n asked.file to.file
+  reply : to.reply ≡ asked.reply
+  names : to.names ≡ asked.names
+  out : is_out epoch (passes_now asked.file.moments s) ≡ true
+
+-- a request that was answered, and what comes of one that goes on with it
+abbrev pub ask_of : (FileNow → Call → List (List ℕ) → Asked) → FileNow → Reply → List (List ℕ) → Option Call → Asked
+ask_of further f reply listed next = elim next [
+  | None ↦ record { file = f; reply = Some reply; names = listed }
+  | Some more ↦ further f more listed
+]
+
+abbrev ask_to : (FileTables → Call → List (List ℕ) → AskedTo) → FileTables → Reply → List (List ℕ) → Option Call → AskedTo
+ask_to further t reply listed next = elim next [
+  | None ↦ record { file = t; reply = Some reply; names = listed }
+  | Some more ↦ further t more listed
+]
+
+ask_same : (n s epoch : ℕ) (further : FileNow → Call → List (List ℕ) → Asked) (further' : FileTables → Call → List (List ℕ) → AskedTo)
+    (f : FileNow) (t : FileTables) (reply : Reply) (listed : List (List ℕ)) (next : Option Call)
+    → ((more : Call) → IsAsked n s epoch (further f more listed) (further' t more listed))
+    → Stands n f t → is_out epoch (passes_now f.moments s) ≡ true → IsAsked n s epoch (ask_of further f reply listed next) (ask_to further' t reply listed next)
+ask_same n s epoch further further' f t reply listed None same stands out = record { file = stands; reply = refl; names = refl; out = out }
+ask_same n s epoch further further' f t reply listed (Some more) same stands out = same more
+
+asks_same : (k n : ℕ) (f : FileNow) (t : FileTables) (s epoch : ℕ) (call : Call) (names : List (List ℕ)) → Stands n f t → s < n
+    → is_out epoch (passes_now f.moments s) ≡ true → IsAsked n s epoch (asks k f s epoch call names) (asks_to k t s epoch call names)
+unfolding asks asks_to
+asks_same zero n f t s epoch call names stands below out = record { file = stands; reply = refl; names = refl; out = out }
+asks_same (suc k) n f t s epoch call names stands below out =
     let a : Answer = apply_answer (at_server f s) epoch call Pass in
+    let reply : Reply = reply_of call a in
+    let listed : List (List ℕ) = names ++ names_of reply.value in
     let f' : FileNow = did f s (Applying epoch call Pass a) in
     let t' : FileTables = stepped t s (Applying epoch call Pass a) in
     let after : Stands n f' t' = plain_stands n f t s (Applying epoch call Pass a) stands (record { answered = refl; delivered = out })
     (kept_inside n f t s (Applying epoch call Pass a) stands below) tt refl in
-    let left : Stands n (did f' s (Leaving epoch)) (stepped t' s (Leaving epoch)) =
-    plain_stands n f' t' s (Leaving epoch) after (record { answered = tt; delivered = ap (is_out epoch) (apply_out f s epoch call a) ∙ out })
-    (kept_inside n f' t' s (Leaving epoch) after below) tt refl in
-    subst (λ v. IsTried n (calls_at f s epoch client act call known) (record {
-      file = stepped (stepped t s (Applying epoch call Pass (apply_answer v epoch call Pass))) s (Leaving epoch);
-      known = learned client act (reply_of call (apply_answer v epoch call Pass)) (record known { in_hand = put_down client known.in_hand });
-      told = told.Answered (reply_of call (apply_answer v epoch call Pass)).status;
-    })) (sym (stands.slots s)) (record { file = left; known = refl; told = refl })
+    let still : is_out epoch (passes_now f'.moments s) ≡ true = ap (is_out epoch) (apply_out f s epoch call a) ∙ out in
+    subst (λ v. IsAsked n s epoch (asks (suc k) f s epoch call names)
+    (ask_to (λ u more its. asks_to k u s epoch more its) (stepped t s (Applying epoch call Pass (apply_answer v epoch call Pass)))
+    (reply_of call (apply_answer v epoch call Pass)) (names ++ names_of (reply_of call (apply_answer v epoch call Pass)).value)
+    (goes_on_with call.deed (reply_of call (apply_answer v epoch call Pass)).value))) (sym (stands.slots s))
+    (ask_same n s epoch (λ g more its. asks k g s epoch more its) (λ u more its. asks_to k u s epoch more its) f' t' reply listed (goes_on_with call.deed reply.value)
+    (λ more. asks_same k n f' t' s epoch more listed after below still) after still)
+
+-- what the client knows then, and is told
+told_same : (n : ℕ) (f : FileNow) (t : FileTables) (client : ℕ) (act : Action) (known : Known) (names : List (List ℕ)) (reply : Option Reply) → Stands n f t
+    → IsTried n (after_asking f client act known names reply) (asked_to t client act known names reply)
+unfolding after_asking asked_to
+told_same n f t client act known names None stands = record { file = stands; known = refl; told = refl }
+told_same n f t client act known names (Some reply) stands = record { file = stands; known = refl; told = refl }
+
+asked_same : (n s epoch client : ℕ) (act : Action) (known : Known) (asked : Asked) (to : AskedTo) → s < n → IsAsked n s epoch asked to
+    → IsTried n (after_asking (did asked.file s (Leaving epoch)) client act known asked.names asked.reply)
+    (asked_to (stepped to.file s (Leaving epoch)) client act known to.names to.reply)
+asked_same n s epoch client act known asked to below same =
+    let left : Stands n (did asked.file s (Leaving epoch)) (stepped to.file s (Leaving epoch)) =
+    plain_stands n asked.file to.file s (Leaving epoch) same.file (record { answered = tt; delivered = same.out })
+    (kept_inside n asked.file to.file s (Leaving epoch) same.file below) tt refl in
+    subst (λ names. IsTried n (after_asking (did asked.file s (Leaving epoch)) client act known asked.names asked.reply)
+    (asked_to (stepped to.file s (Leaving epoch)) client act known names to.reply)) (sym same.names)
+    (subst (λ reply. IsTried n (after_asking (did asked.file s (Leaving epoch)) client act known asked.names asked.reply)
+    (asked_to (stepped to.file s (Leaving epoch)) client act known asked.names reply)) (sym same.reply)
+    (told_same n (did asked.file s (Leaving epoch)) (stepped to.file s (Leaving epoch)) client act known asked.names asked.reply left))
+
+-- so many requests
+calls_by : (k n : ℕ) (f : FileNow) (t : FileTables) (s epoch client : ℕ) (act : Action) (call : Call) (known : Known) → Stands n f t → s < n
+    → is_out epoch (passes_now f.moments s) ≡ true
+    → IsTried n (after_asking (did (asks k f s epoch call []).file s (Leaving epoch)) client act known (asks k f s epoch call []).names (asks k f s epoch call []).reply)
+    (asked_to (stepped (asks_to k t s epoch call []).file s (Leaving epoch)) client act known (asks_to k t s epoch call []).names (asks_to k t s epoch call []).reply)
+calls_by k n f t s epoch client act call known stands below out =
+    asked_same n s epoch client act known (asks k f s epoch call []) (asks_to k t s epoch call []) below (asks_same k n f t s epoch call [] stands below out)
+
+calls_same : (n : ℕ) (f : FileNow) (t : FileTables) (s epoch client : ℕ) (act : Action) (call : Call) (known : Known) → Stands n f t → s < n
+    → is_out epoch (passes_now f.moments s) ≡ true → IsTried n (calls_at f s epoch client act call known) (calls_to t s epoch client act call known)
+unfolding calls_at calls_to
+calls_same n f t s epoch client act call known stands below out = calls_by requests_limit n f t s epoch client act call known stands below out
 
 door_same : (n : ℕ) (f : FileNow) (t : FileTables) (s : ℕ) (door : Option Enter) (client : ℕ) (act : Action) (call : Call) (known : Known) → Stands n f t → IsIn n f s door
     → IsTried n (at_door f s door client act call known) (door_to t s door client act call known)

@@ -4,6 +4,8 @@ use Rattle.std.specs.Prelude.{slice_get, slice_set}
 use Rattle.nm_rules.specs.Actions.{fs_of}
 use Rattle.nm_rules.specs.declared.action.Action.{Action}
 use Rattle.nm_rules.specs.declared.calls.Call.{Call}
+use Rattle.nm_rules.specs.declared.calls.Reply.{Reply}
+use Rattle.nm_rules.specs.declared.calls.Verdict.TheVariants.{Pass}
 use Rattle.nm_script.specs.declared.script.ClientRow.{ClientRow}
 use Rattle.nm_script.specs.declared.script.FsRow.{FsRow}
 use Rattle.nm_script.specs.declared.script.Head.{Head}
@@ -17,15 +19,16 @@ use Rattle.nm_slot.specs.declared.answers.Enter.{Enter}
 use Rattle.nm_slot.specs.declared.answers.Enter.TheVariants as enter
 use Rattle.nm_slot.specs.declared.answers.Freeze.{Freeze}
 use Rattle.nm_slot.specs.declared.answers.Freeze.TheVariants as freeze
-use Rattle.nm_slot.specs.Answers.{enter_answer, begin_answer, freeze_answer, accept_answer}
+use Rattle.nm_slot.specs.declared.answers.Answer.{Answer}
+use Rattle.nm_slot.specs.Answers.{enter_answer, apply_answer, begin_answer, freeze_answer, accept_answer}
 use Rattle.nm_slot.specs.History.{Home}
 use Rattle.nm_slot.specs.Moves.{Sent, move_now, latest_offer, latest_handed}
-use Rattle.nm_slot.specs.SlotNow.SlotStep.{Beginning, Freezing, Accepting}
+use Rattle.nm_slot.specs.SlotNow.SlotStep.{Applying, Leaving, Beginning, Freezing, Accepting}
 use Rattle.nm_short.specs.Known.{Known, call_of, hand_of, place_of, sent_to}
 use Rattle.nm_short.specs.RunFacts.{home_of, run_after}
-use Rattle.nm_short.specs.ShortRun.{FileNow, Went, Knocked, RunNow, Order, at_server, did, source, after_begin, begins, after_freeze, freezes, abandons, after_accept, delivers_offer, commits, delivers_handed, settles, and_then, shifts, knocks, at_door, calls_at, tries, requests_limit, ran_call, acts, starts, goes_on, ran_do, ran_finish, ordered, ran_order, run_line, files_from}
+use Rattle.nm_short.specs.ShortRun.{FileNow, Went, Asked, Knocked, RunNow, Order, at_server, did, reply_of, goes_on_with, names_of, asks, after_asking, source, after_begin, begins, after_freeze, freezes, abandons, after_accept, delivers_offer, commits, delivers_handed, settles, and_then, shifts, knocks, at_door, calls_at, tries, requests_limit, ran_call, acts, starts, goes_on, ran_do, ran_finish, ordered, ran_order, run_line, files_from}
 use Rattle.nm_short.specs.ShortRun.Order.{ToMove, ToFreeze, ToAbandon, ToCommit, ToSettle, ToShift, ToShow}
-use Rattle.nm_short.proofs.ClientLaws.{knock_of}
+use Rattle.nm_short.proofs.ClientLaws.{ask_of, knock_of}
 
 -- ---- an operator's line
 
@@ -117,10 +120,41 @@ unfolding knocks
 knocks_home zero f s = refl
 knocks_home (suc k) f s = knock_home (knocks k) f s (enter_answer (at_server f s)) (λ g r. knocks_home k g r)
 
+ask_home : (further : FileNow → Call → List (List ℕ) → Asked) (f : FileNow) (reply : Reply) (listed : List (List ℕ)) (next : Option Call)
+    → ((more : Call) → (further f more listed).file.home ≡ f.home) → (ask_of further f reply listed next).file.home ≡ f.home
+ask_home further f reply listed None same = refl
+ask_home further f reply listed (Some more) same = same more
+
+asks_home : (k : ℕ) (f : FileNow) (s epoch : ℕ) (call : Call) (names : List (List ℕ)) → (asks k f s epoch call names).file.home ≡ f.home
+unfolding asks
+asks_home zero f s epoch call names = refl
+asks_home (suc k) f s epoch call names =
+    let a : Answer = apply_answer (at_server f s) epoch call Pass in
+    let reply : Reply = reply_of call a in
+    ask_home (λ g more its. asks k g s epoch more its) (did f s (Applying epoch call Pass a)) reply (names ++ names_of reply.value) (goes_on_with call.deed reply.value)
+    (λ more. asks_home k (did f s (Applying epoch call Pass a)) s epoch more (names ++ names_of reply.value))
+
+asked_home : (f : FileNow) (client : ℕ) (act : Action) (known : Known) (names : List (List ℕ)) (reply : Option Reply)
+    → (after_asking f client act known names reply).file.home ≡ f.home
+unfolding after_asking
+asked_home f client act known names None = refl
+asked_home f client act known names (Some reply) = refl
+
+calls_home : (f : FileNow) (s epoch client : ℕ) (act : Action) (call : Call) (known : Known) → (calls_at f s epoch client act call known).file.home ≡ f.home
+unfolding calls_at
+calls_home f s epoch client act call known = by_asks requests_limit
+  where
+    by_asks : (k : ℕ)
+        → (after_asking (did (asks k f s epoch call []).file s (Leaving epoch)) client act known (asks k f s epoch call []).names (asks k f s epoch call []).reply).file.home
+        ≡ f.home
+    by_asks k =
+        asked_home (did (asks k f s epoch call []).file s (Leaving epoch)) client act known (asks k f s epoch call []).names (asks k f s epoch call []).reply
+        ∙ asks_home k f s epoch call []
+
 door_home : (f : FileNow) (s : ℕ) (door : Option Enter) (client : ℕ) (act : Action) (call : Call) (known : Known) → (at_door f s door client act call known).file.home ≡ f.home
-unfolding at_door calls_at
+unfolding at_door
 door_home f s None client act call known = refl
-door_home f s (Some (enter.Entered pass)) client act call known = refl
+door_home f s (Some (enter.Entered pass)) client act call known = calls_home f s pass.epoch client act call known
 door_home f s (Some enter.Delay) client act call known = refl
 door_home f s (Some (enter.Moved dest)) client act call known = refl
 door_home f s (Some (enter.Full passes)) client act call known = refl

@@ -1,4 +1,5 @@
 pub mod AnswersSay
+pub mod AskLemmas
 pub mod BeganKept
 pub mod ClientLaws
 pub mod DeliveryLaws

@@ -10,6 +10,7 @@ use Rattle.nm_slot.specs.declared.answers.Enter.TheVariants as enter
 use Rattle.nm_slot.specs.Answers.{accept_answer, install_answer}
 use Rattle.nm_slot.specs.Images.{offer_of, MayBeOffered}
 use Rattle.nm_slot.specs.SlotNow.SlotStep.{Accepting, Installing}
+use Rattle.nm_short.specs.declared.asks.Asked.{Asked as CodeAsked}
 use Rattle.nm_short.specs.declared.asks.Knocked.{Knocked as CodeKnocked}
 use Rattle.nm_short.specs.declared.files.SentImage.{SentImage}
 use Rattle.nm_short.specs.declared.files.Handed.{Handed}
@@ -19,7 +20,7 @@ use Rattle.nm_short.specs.declared.orders.Order.TheVariants as code
 use Rattle.nm_short.specs.declared.orders.Ordered.{Ordered as CodeOrdered}
 use Rattle.nm_short.specs.ShortRun.{Order}
 use Rattle.nm_short.specs.ShortRun.Order.{ToMove, ToFreeze, ToAbandon, ToCommit, ToSettle, ToShift, ToShow}
-use Rattle.nm_short.specs.Tables.{FileTables, SentTo, HandedTo, WentTo, KnockedTo, slot_in, stepped, commits_in, had_by, goes_well_to, ends_in, nothing_sent}
+use Rattle.nm_short.specs.Tables.{FileTables, SentTo, HandedTo, WentTo, AskedTo, KnockedTo, slot_in, stepped, commits_in, had_by, goes_well_to, ends_in, nothing_sent}
 
 abbrev pub sent_of : SentImage → SentTo
 sent_of sent = record { source = sent.source; dest = sent.dest; offer = offer_of sent.image }
@@ -88,3 +89,7 @@ sent_on enter.Unknown = None
 
 abbrev pub knocked_to : CodeKnocked → FileTables → KnockedTo
 knocked_to knocked f = record { file = f; server = knocked.server; door = knocked.door }
+
+-- what came of a request, with what it left
+abbrev pub asked_in : CodeAsked → FileTables → AskedTo
+asked_in asked f = record { file = f; reply = asked.reply; names = asked.names }

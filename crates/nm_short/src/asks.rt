@@ -1,21 +1,38 @@
 //! What a client does with a file system.
-ghost use Rattle.std.specs.Prelude.{◌≡◌, Some, None, IfOk, OnOk};
+ghost use Rattle.std.specs.Prelude.{◌≡◌, ◌++◌, [], Some, None, IfOk, OnOk, map};
 ghost use Rattle.nm_rules.specs.Answer.{refused_value};
-ghost use Rattle.nm_short.specs.Files.{knocked_to, sent_on};
+ghost use Rattle.nm_rules.specs.Past.{is_done};
+ghost use Rattle.nm_rules.specs.declared.calls.Deed.TheVariants.{ReadDir as ReadDirDeed};
+ghost use Rattle.nm_rules.specs.declared.calls.Verdict.TheVariants.{Pass};
+ghost use Rattle.nm_slot.specs.Answers.{apply_answer};
+ghost use Rattle.nm_slot.specs.SlotNow.SlotStep.{Applying};
+ghost use Rattle.nm_short.specs.Files.{asked_in, knocked_to, sent_on};
 ghost use Rattle.nm_short.specs.Known.{sent_to, put_down, taken_up};
 ghost use Rattle.nm_short.specs.Runs.{tried_to};
-ghost use Rattle.nm_short.specs.ShortRun.{requests_limit, reply_of, unknown_status};
-ghost use Rattle.nm_short.specs.Tables.{knocks_to, calls_to, door_to, tries_to};
+ghost use Rattle.nm_short.specs.ShortRun.{requests_limit, reply_of, last_cookie, more_of, goes_on_with, names_of, told_ok, told_by, unknown_status};
+ghost use Rattle.nm_short.specs.Tables.{knocks_to, asks_to, asked_to, calls_to, door_to, tries_to, slot_in, stepped};
 
-use crate::clients::Clients;
+use crate::clients::{Clients, make_list};
 use crate::files::FileSlots;
-use nm_rules::{Action, Call, Deed, Items, Memory, OpStatus, Reply, ReplyValue, ServerNum};
-use nm_script::Told;
+use nm_rules::{
+    Action, Call, Deed, DirEntry, Items, Memory, OpStatus, ReadDirArgs, ReadDirOk, Reply,
+    ReplyValue, ServerNum,
+};
+use nm_script::{Names, Told};
 use nm_slot::{Answer, Enter, FsPass};
 use std::alloc::Global;
 
 /// So many requests one line may make.
 const REQUESTS_LIMIT: u64 = 1000;
+
+/// What came of a request and of those that go on with it.
+#[derive(Debug, Drop)]
+pub struct Asked {
+    /// The last reply; `None` where there were more requests to make.
+    pub reply: Option<Reply>,
+    /// The names that all replies listed.
+    pub names: Names,
+}
 
 /// Where a client knocked last, and the answer there; `None` where it was sent on each time.
 #[derive(Debug, Drop)]
@@ -35,12 +52,23 @@ fn sent_on(answer: &Enter) -> Option<ServerNum>
 }
 
 // The value of a reply that carries nothing out.
-fn refused_value(deed: &Deed) -> ReplyValue
+fn refused_value(alloc: Global, deed: &Deed) -> ReplyValue
     ensures { result ≡ refused_value deed.now }
 {
     match deed {
-        Deed::Open(_) => ReplyValue::Open(None),
+        Deed::Access(_) => ReplyValue::Access(None),
         Deed::Close(_) => ReplyValue::Close(None),
+        Deed::Commit(_) => ReplyValue::Commit(None),
+        Deed::Create(_) => ReplyValue::Create(None),
+        Deed::GetAttr(_) => ReplyValue::GetAttr(None),
+        Deed::Lookup(_) => ReplyValue::Lookup(None),
+        Deed::LookupP => ReplyValue::LookupP(None),
+        Deed::Open(_) => ReplyValue::Open(None),
+        Deed::Read(_) => ReplyValue::Read(None),
+        Deed::ReadDir(_) => ReplyValue::ReadDir(None),
+        Deed::Remove(_) => ReplyValue::Remove(None),
+        Deed::SetAttr(_) => ReplyValue::SetAttr(Items::new(alloc)),
+        Deed::Write(_) => ReplyValue::Write(None),
     }
 }
 
@@ -56,7 +84,7 @@ fn reply_of(alloc: Global, call: &Call, answer: Answer) -> Reply
     };
     Reply {
         status,
-        value: refused_value(&call.deed),
+        value: refused_value(alloc, &call.deed),
         recalls: Items::new(alloc),
     }
 }
@@ -68,7 +96,109 @@ fn unknown_status(action: &Action) -> OpStatus
 {
     match action {
         Action::Open(_) | Action::Create(_) => OpStatus::NoEnt,
+        Action::Remove(_) | Action::MkDir(_) | Action::List(_) => OpStatus::NoEnt,
         Action::Close(_) => OpStatus::Stale,
+        Action::Read(_) | Action::Write(_) | Action::Size(_) => OpStatus::Stale,
+    }
+}
+
+// The cookie of the last entry, or that behind which there are none.
+fn last_cookie(cookie: u64, entries: &[DirEntry]) -> u64
+    ensures { result ≡ last_cookie cookie entries.now }
+{
+    let mut last = cookie;
+    for entry in entries {
+        last = entry.cookie;
+    }
+    last
+}
+
+// The request that goes on with a list.
+fn more_of(alloc: Global, args: &ReadDirArgs, ok: &ReadDirOk) -> Option<Call>
+    ensures { result ≡ more_of args.now ok.now }
+{
+    if ok.eof {
+        return None;
+    }
+    let cookie = last_cookie(args.cookie, ok.entries.items());
+    Some(make_list(alloc, cookie))
+}
+
+// The request that goes on with a READDIR.
+#[tactic(auto, unfolding(crate::specs::ShortRun::goes_on_with))]
+fn goes_on_listing(alloc: Global, args: &ReadDirArgs, value: &ReplyValue) -> Option<Call>
+    ensures { result ≡ goes_on_with (ReadDirDeed args.now) value.now }
+{
+    match value {
+        ReplyValue::ReadDir(Some(ok)) => more_of(alloc, args, ok),
+        _ => None,
+    }
+}
+
+// The request that goes on with another.
+#[tactic(auto, unfolding(crate::specs::ShortRun::goes_on_with))]
+fn goes_on_with(alloc: Global, deed: &Deed, value: &ReplyValue) -> Option<Call>
+    ensures { result ≡ goes_on_with deed.now value.now }
+{
+    match deed {
+        Deed::ReadDir(args) => goes_on_listing(alloc, args, value),
+        Deed::Access(_) | Deed::Close(_) | Deed::Commit(_) | Deed::Create(_) => None,
+        Deed::GetAttr(_) | Deed::Lookup(_) | Deed::LookupP | Deed::Open(_) => None,
+        Deed::Read(_) | Deed::Remove(_) | Deed::SetAttr(_) | Deed::Write(_) => None,
+    }
+}
+
+// The names of entries, behind others.
+fn add_entries(names: &mut Names, entries: &[DirEntry]) -> Result<(), Memory>
+    ensures { OnOk result (names.new ≡ names.old ++ map (λ entry. entry.name) entries.now) }
+{
+    for entry in entries {
+        names.push(entry.name.copy()?)?;
+    }
+    Ok(())
+}
+
+// The names that a reply lists, behind others.
+#[tactic(auto, unfolding(crate::specs::ShortRun::names_of))]
+fn add_names(names: &mut Names, value: &ReplyValue) -> Result<(), Memory>
+    ensures { OnOk result (names.new ≡ names.old ++ names_of value.now) }
+{
+    match value {
+        ReplyValue::ReadDir(Some(ok)) => Ok(add_entries(names, ok.entries.items())?),
+        _ => Ok(()),
+    }
+}
+
+// Whether a call was carried out.
+#[tactic(auto, unfolding(nm_rules::specs::Past::is_done))]
+fn is_done(status: OpStatus) -> bool
+    ensures { result ≡ is_done status }
+{
+    matches!(status, OpStatus::Nfs4Ok)
+}
+
+// What a client is told of an OK.
+#[tactic(auto, unfolding(crate::specs::ShortRun::told_ok))]
+fn told_ok(value: ReplyValue, names: Names) -> Told
+    ensures { result ≡ told_ok value names }
+{
+    match value {
+        ReplyValue::Write(Some(ok)) => Told::Wrote(ok.count),
+        ReplyValue::Read(Some(ok)) => Told::Read(ok),
+        ReplyValue::ReadDir(Some(_)) => Told::Listed(names),
+        _ => Told::Answered(OpStatus::Nfs4Ok),
+    }
+}
+
+// What a client is told of the last reply, and of the names that all of them listed.
+#[tactic(auto, unfolding(crate::specs::ShortRun::told_by))]
+fn told_by(reply: Reply, names: Names) -> Told
+    ensures { result ≡ told_by reply names }
+{
+    if is_done(reply.status) {
+        told_ok(reply.value, names)
+    } else {
+        Told::Answered(reply.status)
     }
 }
 
@@ -93,7 +223,67 @@ impl FileSlots {
         Knocked { server, door: None }
     }
 
-    // Makes a call with a pass, and gives it back.
+    // A request's reply. What it lists comes behind other names.
+    fn request(
+        &mut self,
+        server: ServerNum,
+        pass: &FsPass,
+        call: &Call,
+        names: &mut Names,
+    ) -> Result<Reply, Memory>
+        ensures reply { IfOk result (λ reply. reply ≡ reply_of call.now (apply_answer (slot_in self.old server) pass.now.epoch call.now Pass)) }
+        ensures after { OnOk result (self.new ≡ stepped self.old server (Applying pass.now.epoch call.now Pass (apply_answer (slot_in self.old server) pass.now.epoch call.now Pass))) }
+        ensures names { IfOk result (λ reply. names.new ≡ names.old ++ names_of reply.value) }
+    {
+        let answer = self.apply(server, pass, call)?;
+        let reply = reply_of(self.alloc, call, answer);
+        add_names(names, &reply.value)?;
+        Ok(reply)
+    }
+
+    // Makes a request with a pass, and those that go on with it.
+    fn ask(&mut self, server: ServerNum, pass: &FsPass, first: &Call) -> Result<Asked, Memory>
+        ensures { IfOk result (λ asked. asked_in asked self.new ≡ asks_to requests_limit self.old server pass.now.epoch first.now []) }
+    {
+        let mut names = Items::new(self.alloc);
+        let mut call = first.copy()?;
+        for _count in 0..REQUESTS_LIMIT {
+            let reply = self.request(server, pass, &call, &mut names)?;
+            match goes_on_with(self.alloc, &call.deed, &reply.value) {
+                Some(next) => call = next,
+                None => {
+                    return Ok(Asked {
+                        reply: Some(reply),
+                        names,
+                    });
+                }
+            }
+        }
+        Ok(Asked { reply: None, names })
+    }
+
+    // What a client knows then, and is told.
+    #[tactic(auto, unfolding(crate::specs::Tables::asked_to))]
+    fn tell(
+        &self,
+        clients: &mut Clients,
+        asked: Asked,
+        client: u32,
+        action: &Action,
+    ) -> Result<Told, Memory>
+        ensures { IfOk result (λ told. tried_to told self.now clients.new ≡ asked_to self.now client action.now clients.old asked.names asked.reply) }
+    {
+        let Asked { reply, names } = asked;
+        let Some(reply) = reply else {
+            clients.take_up(client, action)?;
+            return Ok(Told::Stopped);
+        };
+        clients.put_down(client);
+        clients.learn(client, action, &reply)?;
+        Ok(told_by(reply, names))
+    }
+
+    // Makes an action's requests with a pass, and gives it back.
     #[tactic(auto, unfolding(crate::specs::Tables::calls_to))]
     fn call(
         &mut self,
@@ -106,12 +296,9 @@ impl FileSlots {
     ) -> Result<Told, Memory>
         ensures { IfOk result (λ told. tried_to told self.new clients.new ≡ calls_to self.old server pass.epoch client action.now call.now clients.old) }
     {
-        let answer = self.apply(server, &pass, call)?;
+        let asked = self.ask(server, &pass, call)?;
         self.leave(server, pass);
-        let reply = reply_of(self.alloc, call, answer);
-        clients.put_down(client);
-        clients.learn(client, action, &reply)?;
-        Ok(Told::Answered(reply.status))
+        Ok(self.tell(clients, asked, client, action)?)
     }
 
     // What comes of the door's answer.
@@ -152,8 +339,8 @@ impl FileSlots {
         }
     }
 
-    /// A client's call, made where the file system is. After want of memory nothing is promised of the file system, nor of
-    /// what clients know.
+    /// A client's call, and those that go on with it, made where the file system is. After want of memory nothing is promised
+    /// of the file system, nor of what clients know.
     #[tactic(auto, unfolding(crate::specs::Tables::tries_to))]
     pub fn tries(
         &mut self,

@@ -1,12 +1,14 @@
 //! What the clients of a script know, and what they send.
-ghost use Rattle.std.specs.Prelude.{◌≡◌, ◌==◌, ◌≤◌, ◌++◌, not, length, filter, find, codes, IfOk, OnOk, option_copied};
+ghost use Rattle.std.specs.Prelude.{◌≡◌, ◌==◌, ◌≤◌, ◌++◌, not, length, filter, find, codes, IfOk, OnOk, option_copied, option_map};
 ghost use Rattle.nm_rules.specs.Shares.{next_seqid};
-ghost use Rattle.nm_short.specs.Known.{knows_nothing, is_place_of, seqid_of, other_seqids, moved_on, held_of, others_held, holds_opened, holds_closed, learned, learned_open, place_of, sent_to, hand_of, put_down, taken_up, party_of, owner_text, open_call, close_call, call_of};
+ghost use Rattle.nm_rules.specs.Wire.{hyper};
+ghost use Rattle.nm_short.specs.Known.{knows_nothing, is_place_of, seqid_of, other_seqids, moved_on, held_of, others_held, holds_opened, holds_closed, learned, learned_open, learned_close, place_of, sent_to, hand_of, put_down, taken_up, party_of, owner_text, no_attributes, size_alone, open_call, close_call, read_call, write_call, size_call, remove_call, mkdir_call, list_call, call_of};
 
 use nm_rules::{
-    Action, Bytes, Call, CloseAction, CloseArgs, Deed, FsNum, Instance, Items, Memory, OpStatus,
-    OpenAction, OpenArgs, OpenClaim, OpenHow, Principal, Reply, ReplyValue, ServerNum, StateId,
-    StateRef,
+    Action, Bytes, Call, Claim, CloseAction, CloseArgs, CreateArgs, CreateType, Deed, Fattr, FsNum,
+    Instance, Items, Memory, OpStatus, OpenAction, OpenArgs, OpenType, Principal, ReadAction,
+    ReadArgs, ReadDirArgs, RemoveArgs, Reply, ReplyValue, ServerNum, SetAttrArgs, SizeAction,
+    Stable, StateId, StateRef, WriteAction, WriteArgs,
 };
 use nm_script::ClientRow;
 use std::alloc::Global;
@@ -153,9 +155,9 @@ fn hold_opened(
     rows: &mut Vec<HeldOpen>,
     client: u32,
     a: &OpenAction,
-    value: ReplyValue,
+    value: &ReplyValue,
 ) -> Result<(), Memory>
-    ensures { OnOk result (rows.new.items ≡ holds_opened client a.now value rows.old.items) }
+    ensures { OnOk result (rows.new.items ≡ holds_opened client a.now value.now rows.old.items) }
 {
     if let ReplyValue::Open(Some(opened)) = value {
         let owner = a.owner.copy()?;
@@ -167,7 +169,7 @@ fn hold_opened(
             owner,
             file,
             handle: opened.file,
-            stateid: opened.stateid,
+            stateid: opened.ok.stateid,
         })?;
     }
     Ok(())
@@ -175,8 +177,8 @@ fn hold_opened(
 
 // What the reply to a CLOSE leaves in a client's hands.
 #[tactic(auto, unfolding(crate::specs::Known::holds_closed))]
-fn hold_closed(rows: &mut Vec<HeldOpen>, client: u32, a: &CloseAction, value: ReplyValue)
-    ensures { rows.new.items ≡ holds_closed client a.now value rows.old.items }
+fn hold_closed(rows: &mut Vec<HeldOpen>, client: u32, a: &CloseAction, value: &ReplyValue)
+    ensures { rows.new.items ≡ holds_closed client a.now value.now rows.old.items }
 {
     if let ReplyValue::Close(Some(_)) = value {
         drop_held(rows, client, a.fs, a.owner.items(), a.file.items());
@@ -252,6 +254,34 @@ fn text_of_owner(alloc: Global, row: &ClientRow, owner: &Bytes) -> Result<Bytes,
     Ok(Items::from_slice(alloc, &text)?)
 }
 
+// No attributes.
+fn no_attributes(alloc: Global) -> Fattr
+    ensures { result ≡ no_attributes }
+{
+    Fattr {
+        words: Items::new(alloc),
+        values: Items::new(alloc),
+    }
+}
+
+// The eight bytes of a size.
+#[tactic(auto, unfolding(nm_rules::specs::Wire::hyper))]
+fn bytes_of_size(alloc: Global, size: u64) -> Result<Bytes, Memory>
+    ensures { IfOk result (λ bytes. bytes ≡ hyper size) }
+{
+    Ok(Items::from_slice(alloc, &size.to_be_bytes())?)
+}
+
+// A size alone.
+fn size_alone(alloc: Global, size: u64) -> Result<Fattr, Memory>
+    ensures { IfOk result (λ fattr. fattr ≡ size_alone size) }
+{
+    Ok(Fattr {
+        words: Items::from_slice(alloc, &[16])?,
+        values: bytes_of_size(alloc, size)?,
+    })
+}
+
 // The call of an OPEN.
 #[tactic(auto, unfolding(crate::specs::Known::open_call))]
 fn make_open(
@@ -259,19 +289,19 @@ fn make_open(
     client: u32,
     row: &ClientRow,
     a: &OpenAction,
-    how: OpenHow,
+    opentype: OpenType,
     seqid: u32,
 ) -> Result<Call, Memory>
     requires { length row.now.name ≤ 16 }
-    ensures { IfOk result (λ call. call ≡ open_call client row.now a.now how seqid) }
+    ensures { IfOk result (λ call. call ≡ open_call client row.now a.now opentype seqid) }
 {
     let args = OpenArgs {
         seqid,
         access: a.access,
         deny: a.deny,
         owner: text_of_owner(alloc, row, &a.owner)?,
-        how,
-        claim: OpenClaim::Null(a.file.copy()?),
+        opentype,
+        claim: Claim::Null(a.file.copy()?),
     };
     Ok(Call {
         caller: Some(instance_of(alloc, client, row)?),
@@ -303,6 +333,126 @@ fn make_close(
     })
 }
 
+// The call of a READ.
+#[tactic(auto, unfolding(crate::specs::Known::read_call))]
+fn make_read(
+    alloc: Global,
+    client: u32,
+    row: &ClientRow,
+    a: &ReadAction,
+    held: &HeldOpen,
+) -> Result<Call, Memory>
+    requires { length row.now.name ≤ 16 }
+    ensures { IfOk result (λ call. call ≡ read_call client row.now a.now held.now) }
+{
+    let args = ReadArgs {
+        stateid: StateRef::Named(held.stateid),
+        offset: a.offset,
+        count: a.count,
+    };
+    Ok(Call {
+        caller: Some(instance_of(alloc, client, row)?),
+        file: held.handle,
+        deed: Deed::Read(args),
+    })
+}
+
+// The call of a WRITE.
+#[tactic(auto, unfolding(crate::specs::Known::write_call))]
+fn make_write(
+    alloc: Global,
+    client: u32,
+    row: &ClientRow,
+    a: &WriteAction,
+    held: &HeldOpen,
+) -> Result<Call, Memory>
+    requires { length row.now.name ≤ 16 }
+    ensures { IfOk result (λ call. call ≡ write_call client row.now a.now held.now) }
+{
+    let args = WriteArgs {
+        stateid: StateRef::Named(held.stateid),
+        offset: a.offset,
+        stable: Stable::FileSync,
+        data: a.data.copy()?,
+    };
+    Ok(Call {
+        caller: Some(instance_of(alloc, client, row)?),
+        file: held.handle,
+        deed: Deed::Write(args),
+    })
+}
+
+// The call of a SETATTR of a size.
+#[tactic(auto, unfolding(crate::specs::Known::size_call))]
+fn make_size(
+    alloc: Global,
+    client: u32,
+    row: &ClientRow,
+    a: &SizeAction,
+    held: &HeldOpen,
+) -> Result<Call, Memory>
+    requires { length row.now.name ≤ 16 }
+    ensures { IfOk result (λ call. call ≡ size_call client row.now a.now held.now) }
+{
+    let args = SetAttrArgs {
+        stateid: StateRef::Named(held.stateid),
+        attributes: size_alone(alloc, a.size)?,
+    };
+    Ok(Call {
+        caller: Some(instance_of(alloc, client, row)?),
+        file: held.handle,
+        deed: Deed::SetAttr(args),
+    })
+}
+
+// The call of a REMOVE.
+#[tactic(auto, unfolding(crate::specs::Known::remove_call))]
+fn make_remove(name: &Bytes) -> Result<Call, Memory>
+    ensures { IfOk result (λ call. call ≡ remove_call name.now) }
+{
+    Ok(Call {
+        caller: None,
+        file: 1,
+        deed: Deed::Remove(RemoveArgs { name: name.copy()? }),
+    })
+}
+
+// The call of a CREATE of a directory.
+#[tactic(auto, unfolding(crate::specs::Known::mkdir_call))]
+fn make_directory(alloc: Global, name: &Bytes) -> Result<Call, Memory>
+    ensures { IfOk result (λ call. call ≡ mkdir_call name.now) }
+{
+    let args = CreateArgs {
+        kind: CreateType::Directory,
+        name: name.copy()?,
+        attributes: no_attributes(alloc),
+    };
+    Ok(Call {
+        caller: None,
+        file: 1,
+        deed: Deed::Create(args),
+    })
+}
+
+/// The call of a READDIR of the root: the entries behind a cookie.
+#[tactic(auto, unfolding(crate::specs::Known::list_call))]
+pub fn make_list(alloc: Global, cookie: u64) -> Call
+    ensures { result ≡ list_call cookie }
+{
+    let args = ReadDirArgs {
+        cookie,
+        verifier: 0,
+        dircount: 0,
+        maxcount: 65536,
+        words: Items::new(alloc),
+    };
+    Call {
+        caller: None,
+        file: 1,
+        deed: Deed::ReadDir(args),
+    }
+}
+
 impl Clients {
     /// Clients that know nothing yet. It takes no memory.
     pub fn new(alloc: Global) -> Clients
@@ -317,7 +467,101 @@ impl Clients {
         }
     }
 
-    /// The call that a client's action sends. `None` exactly where it needs a stateid that the client hasn't.
+    // The next seqid of an owner.
+    fn seqid_of(&self, client: u32, fs: FsNum, owner: &Bytes) -> u32
+        ensures { result ≡ seqid_of client fs owner.now self.now.seqids }
+    {
+        find_seqid(&self.seqids, client, fs, owner.items())
+    }
+
+    // What an owner of a client holds on a file.
+    fn held_of(&self, client: u32, fs: FsNum, owner: &Bytes, file: &Bytes) -> Option<&HeldOpen>
+        ensures { option_copied result ≡ held_of client fs owner.now file.now self.now.held }
+    {
+        find_held(&self.held, client, fs, owner.items(), file.items())
+    }
+
+    // The call of an open or of a create.
+    fn open_call(
+        &self,
+        client: u32,
+        row: &ClientRow,
+        a: &OpenAction,
+        opentype: OpenType,
+    ) -> Result<Call, Memory>
+        requires { length row.now.name ≤ 16 }
+        ensures { IfOk result (λ call. call ≡ open_call client row.now a.now opentype (seqid_of client a.now.fs a.now.owner self.now.seqids)) }
+    {
+        let seqid = self.seqid_of(client, a.fs, &a.owner);
+        Ok(make_open(self.alloc, client, row, a, opentype, seqid)?)
+    }
+
+    // The call of a close, where the client holds the open.
+    fn close_call(
+        &self,
+        client: u32,
+        row: &ClientRow,
+        a: &CloseAction,
+    ) -> Result<Option<Call>, Memory>
+        requires { length row.now.name ≤ 16 }
+        ensures { IfOk result (λ call. call ≡ option_map (λ held. close_call client row.now held (seqid_of client a.now.fs a.now.owner self.now.seqids)) (held_of client a.now.fs a.now.owner a.now.file self.now.held)) }
+    {
+        let seqid = self.seqid_of(client, a.fs, &a.owner);
+        match self.held_of(client, a.fs, &a.owner, &a.file) {
+            Some(held) => Ok(Some(make_close(self.alloc, client, row, held, seqid)?)),
+            None => Ok(None),
+        }
+    }
+
+    // The call of a read, where the client holds the open.
+    fn read_call(
+        &self,
+        client: u32,
+        row: &ClientRow,
+        a: &ReadAction,
+    ) -> Result<Option<Call>, Memory>
+        requires { length row.now.name ≤ 16 }
+        ensures { IfOk result (λ call. call ≡ option_map (read_call client row.now a.now) (held_of client a.now.fs a.now.owner a.now.file self.now.held)) }
+    {
+        match self.held_of(client, a.fs, &a.owner, &a.file) {
+            Some(held) => Ok(Some(make_read(self.alloc, client, row, a, held)?)),
+            None => Ok(None),
+        }
+    }
+
+    // The call of a write, where the client holds the open.
+    fn write_call(
+        &self,
+        client: u32,
+        row: &ClientRow,
+        a: &WriteAction,
+    ) -> Result<Option<Call>, Memory>
+        requires { length row.now.name ≤ 16 }
+        ensures { IfOk result (λ call. call ≡ option_map (write_call client row.now a.now) (held_of client a.now.fs a.now.owner a.now.file self.now.held)) }
+    {
+        match self.held_of(client, a.fs, &a.owner, &a.file) {
+            Some(held) => Ok(Some(make_write(self.alloc, client, row, a, held)?)),
+            None => Ok(None),
+        }
+    }
+
+    // The call of a change of size, where the client holds the open.
+    fn size_call(
+        &self,
+        client: u32,
+        row: &ClientRow,
+        a: &SizeAction,
+    ) -> Result<Option<Call>, Memory>
+        requires { length row.now.name ≤ 16 }
+        ensures { IfOk result (λ call. call ≡ option_map (size_call client row.now a.now) (held_of client a.now.fs a.now.owner a.now.file self.now.held)) }
+    {
+        match self.held_of(client, a.fs, &a.owner, &a.file) {
+            Some(held) => Ok(Some(make_size(self.alloc, client, row, a, held)?)),
+            None => Ok(None),
+        }
+    }
+
+    /// The call that a client's action sends first. `None` exactly where it needs a stateid that the client hasn't.
     #[tactic(auto, unfolding(crate::specs::Known::call_of))]
     pub fn call_of(
         &self,
@@ -328,23 +572,19 @@ impl Clients {
         requires { length row.now.name ≤ 16 }
         ensures { IfOk result (λ call. call ≡ call_of client row.now self.now action.now) }
     {
-        let alloc = self.alloc;
         match action {
-            Action::Open(a) => {
-                let seqid = find_seqid(&self.seqids, client, a.fs, a.owner.items());
-                Ok(Some(make_open(alloc, client, row, a, OpenHow::NoCreate, seqid)?))
-            }
+            Action::Open(a) => Ok(Some(self.open_call(client, row, a, OpenType::NoCreate)?)),
             Action::Create(a) => {
-                let seqid = find_seqid(&self.seqids, client, a.fs, a.owner.items());
-                Ok(Some(make_open(alloc, client, row, a, OpenHow::Unchecked, seqid)?))
+                let opentype = OpenType::Unchecked(no_attributes(self.alloc));
+                Ok(Some(self.open_call(client, row, a, opentype)?))
             }
-            Action::Close(a) => {
-                let seqid = find_seqid(&self.seqids, client, a.fs, a.owner.items());
-                match find_held(&self.held, client, a.fs, a.owner.items(), a.file.items()) {
-                    Some(held) => Ok(Some(make_close(alloc, client, row, held, seqid)?)),
-                    None => Ok(None),
-                }
-            }
+            Action::Close(a) => Ok(self.close_call(client, row, a)?),
+            Action::Read(a) => Ok(self.read_call(client, row, a)?),
+            Action::Write(a) => Ok(self.write_call(client, row, a)?),
+            Action::Size(a) => Ok(self.size_call(client, row, a)?),
+            Action::Remove(a) => Ok(Some(make_remove(&a.file)?)),
+            Action::MkDir(a) => Ok(Some(make_directory(self.alloc, &a.file)?)),
+            Action::List(_) => Ok(Some(make_list(self.alloc, 0))),
         }
     }
 
@@ -353,7 +593,16 @@ impl Clients {
         ensures { OnOk result (self.new ≡ learned_open client a.now reply.now self.old) }
     {
         move_on(&mut self.seqids, client, a.fs, &a.owner, reply.status)?;
-        Ok(hold_opened(&mut self.held, client, a, reply.value)?)
+        Ok(hold_opened(&mut self.held, client, a, &reply.value)?)
+    }
+
+    // The reply to a CLOSE.
+    fn learn_close(&mut self, client: u32, a: &CloseAction, reply: &Reply) -> Result<(), Memory>
+        ensures { OnOk result (self.new ≡ learned_close client a.now reply.now self.old) }
+    {
+        move_on(&mut self.seqids, client, a.fs, &a.owner, reply.status)?;
+        hold_closed(&mut self.held, client, a, &reply.value);
+        Ok(())
     }
 
     /// The reply to a client's action. After want of memory nothing is promised of what is known.
@@ -363,11 +612,9 @@ impl Clients {
     {
         match action {
             Action::Open(a) | Action::Create(a) => Ok(self.learn_open(client, a, reply)?),
-            Action::Close(a) => {
-                move_on(&mut self.seqids, client, a.fs, &a.owner, reply.status)?;
-                hold_closed(&mut self.held, client, a, reply.value);
-                Ok(())
-            }
+            Action::Close(a) => Ok(self.learn_close(client, a, reply)?),
+            Action::Read(_) | Action::Write(_) | Action::Size(_) => Ok(()),
+            Action::Remove(_) | Action::MkDir(_) | Action::List(_) => Ok(()),
         }
     }
 
