@@ -345,8 +345,9 @@ fn make_read(
     requires { length row.now.name ≤ 16 }
     ensures { IfOk result (λ call. call ≡ read_call client row.now a.now held.now) }
 {
+    let open = StateRef::Named(held.stateid);
     let args = ReadArgs {
-        stateid: StateRef::Named(held.stateid),
+        stateid: open,
         offset: a.offset,
         count: a.count,
     };

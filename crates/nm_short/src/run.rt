@@ -1,5 +1,5 @@
 //! The run of a script's lines.
-ghost use Rattle.std.specs.Prelude.{◌≡◌, ◌∷◌, ◌<◌, ◌≤◌, [], length, IfOk, slice_get};
+ghost use Rattle.std.specs.Prelude.{◌≡◌, ◌∷◌, ◌<◌, ◌≤◌, [], Some, length, IfOk, slice_get};
 ghost use Rattle.nm_rules.specs.Actions.{fs_of};
 ghost use Rattle.nm_script.specs.Grammar.{IsWellFormed};
 ghost use Rattle.nm_script.specs.Text.{text_of};
@@ -102,29 +102,28 @@ impl Run {
         client: u32,
         row: &ClientRow,
         action: &Action,
-        call: Option<Call>,
+        call: &Call,
     ) -> Result<Report, Memory>
-        ensures { IfOk result (λ rows. step_to rows self.new ≡ told_call self.old client row.now action.now call (slice_get self.old.files (fs_of action.now))) }
+        ensures { IfOk result (λ rows. step_to rows self.new ≡ told_call self.old client row.now action.now (Some call.now) (slice_get self.old.files (fs_of action.now))) }
     {
-        let Some(call) = call else {
-            return Ok(outcome_of(self.alloc, row, action, Told::NoState)?);
-        };
         let at = action.fs().number() as usize;
         if at >= self.files.len() {
             return Ok(Items::new(self.alloc));
         }
-        let told = self.files[at].tries(&mut self.clients, client, action, &call)?;
+        let told = self.files[at].tries(&mut self.clients, client, action, call)?;
         Ok(outcome_of(self.alloc, row, action, told)?)
     }
 
     // A client's action.
-    #[tactic(auto, unfolding(crate::specs::Tables::told_act))]
+    #[tactic(auto, unfolding(crate::specs::Tables::told_act, crate::specs::Tables::told_call))]
     fn act(&mut self, client: u32, row: &ClientRow, action: &Action) -> Result<Report, Memory>
         requires { length row.now.name ≤ 16 }
         ensures { IfOk result (λ rows. step_to rows self.new ≡ told_act self.old client row.now action.now) }
     {
-        let call = self.clients.call_of(client, row, action)?;
-        Ok(self.make_call(client, row, action, call)?)
+        match self.clients.call_of(client, row, action)? {
+            Some(call) => Ok(self.make_call(client, row, action, &call)?),
+            None => Ok(outcome_of(self.alloc, row, action, Told::NoState)?),
+        }
     }
 
     // A client begins an action.

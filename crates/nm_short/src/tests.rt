@@ -201,3 +201,101 @@ fn one_server_has_it_after_each_step(rt: HostRuntime) -> Result<(), Fail> {
     );
     Ok(())
 }
+
+#[test]
+fn names_come_and_go_in_a_directory(rt: HostRuntime) -> Result<(), Fail> {
+    let lines = "do C1 create X f rw none o
+do C1 remove X f
+do C1 close X f o
+do C1 remove X f
+do C1 list X
+do C1 mkdir X d
+do C1 mkdir X d
+do C1 open X d r none o
+do C1 list X
+";
+    let text = "C1 create OK
+C1 remove FILE_OPEN
+C1 close OK
+C1 remove OK
+C1 list OK
+C1 mkdir OK
+C1 mkdir EXIST
+C1 open ISDIR
+C1 list OK d
+";
+    assert_eq!(rt;
+        text_of_lines(rt.alloc(), lines)?.as_slice(),
+        text.as_bytes()
+    );
+    Ok(())
+}
+
+#[test]
+fn a_file_is_written_and_cut(rt: HostRuntime) -> Result<(), Fail> {
+    let lines = "do C1 create X f rw none o
+do C1 write X f 0 6869 o
+do C1 read X f 0 10 o
+do C1 size X f 1 o
+do C1 write X f 4 ff o
+do C1 read X f 0 10 o
+do C1 write X f 1048576 00 o
+";
+    let text = "C1 create OK
+C1 write OK 2
+C1 read OK 6869 eof
+C1 size OK
+C1 write OK 1
+C1 read OK 68000000ff eof
+C1 write FBIG
+";
+    assert_eq!(rt;
+        text_of_lines(rt.alloc(), lines)?.as_slice(),
+        text.as_bytes()
+    );
+    Ok(())
+}
+
+// C2 may only read, and never opened g. Its read waits for the move, and finds at S2 what was written at S1.
+#[test]
+fn bytes_go_with_a_move(rt: HostRuntime) -> Result<(), Fail> {
+    let lines = "do C1 create X f w none o
+do C1 write X f 2 abcd o
+do C2 open X f r none p
+do C2 write X f 0 ff p
+do C2 read X g 0 4 p
+do C1 read X f 0 4 o
+move X S2
+do C2 read X f 1 2 p
+do C1 list X
+freeze X
+commit X
+settle X
+do C2 finish
+do C1 finish
+do C2 read X f 4 4 p
+do C2 remove X f
+";
+    let text = "C1 create OK
+C1 write OK 2
+C2 open OK
+C2 write OPENMODE
+C2 read NOSTATE
+C1 read OPENMODE
+X closing S1 S2 move 1
+C2 read DELAY
+C1 list DELAY
+X frozen S1 S2 move 1
+X passing S1 S2 move 1
+X at S2
+C2 read OK 00ab more
+C1 list OK f
+C2 read OK - eof
+C2 remove FILE_OPEN
+";
+    assert_eq!(rt;
+        text_of_lines(rt.alloc(), lines)?.as_slice(),
+        text.as_bytes()
+    );
+    Ok(())
+}
