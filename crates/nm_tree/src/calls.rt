@@ -150,7 +150,7 @@ impl Tree {
         None
     }
 
-    /// Takes a name from a directory (RFC 7530, 16.24), and answers the number of the file or directory that goes. Statuses
+    /// Takes a name from a directory (RFC 7530, 16.26), and answers the number of the file or directory that goes. Statuses
     /// as `find` has them, then `NOTEMPTY` where it is a directory with entries, and `RESOURCE` where the last number of a change
     /// is reached. After an error nothing has changed. Opens are no concern of the tree.
     #[tactic(auto, using(crate::proofs::CallLemmas::remove_changes), unfolding(crate::specs::Answers::remove_answer))]
@@ -294,7 +294,7 @@ impl Tree {
         }
     }
 
-    /// The entries of a directory past a number, by rising number (RFC 7530, 16.25). `STALE` where the directory isn't there,
+    /// The entries of a directory past a number, by rising number (RFC 7530, 16.24). `STALE` where the directory isn't there,
     /// `NOTDIR` where it is a file.
     #[tactic(auto, unfolding(crate::specs::Answers::list_answer))]
     pub fn list(&self, dir: u64, after: u64) -> Result<Listing, Refusal>
