@@ -17,6 +17,7 @@ fn owner(alloc: Global, id: &[u8], text: &[u8]) -> Result<Owner, Fail> {
 }
 
 // Takes an open, where there is room for one and the share is one.
+#[tactic(auto, unfolding(nm_rules::specs::Opens::is_share))]
 fn take(
     rt: &impl Abort,
     shares: &mut Shares,
