@@ -170,22 +170,30 @@ fn listed(alloc: Global, cookie: u64, maxcount: u32) -> Result<ReplyValue, Fail>
     )
 }
 
+// 16 bytes, and for each entry 24 and its name's, up to a multiple of 4.
 #[test]
 fn a_listing_gives_what_has_room(rt: HostRuntime) -> Result<(), Fail> {
     let alloc = rt.alloc();
-    let (b, a, c) = (
+    let all = [
         (16, b"b".as_slice()),
         (17, b"a".as_slice()),
         (18, b"ccccc".as_slice()),
-    );
-    // 16 bytes, and for each entry 24 and its name's, up to a multiple of 4.
-    assert_eq!(rt; listed(alloc, 0, 104)?, listing(alloc, &[b, a, c], true)?);
-    assert_eq!(rt; listed(alloc, 0, 103)?, listing(alloc, &[b, a], false)?);
-    assert_eq!(rt; listed(alloc, 0, 72)?, listing(alloc, &[b, a], false)?);
-    assert_eq!(rt; listed(alloc, 0, 71)?, listing(alloc, &[b], false)?);
-    assert_eq!(rt; listed(alloc, 0, 43)?, ReplyValue::ReadDir(None));
-    assert_eq!(rt; listed(alloc, 16, 76)?, listing(alloc, &[a, c], true)?);
+    ];
+    let (two, one) = (all.split_at(2).0, all.split_at(1).0);
+    assert_eq!(rt; listed(alloc, 0, 104)?, listing(alloc, &all, true)?);
+    assert_eq!(rt; listed(alloc, 0, 103)?, listing(alloc, two, false)?);
+    assert_eq!(rt; listed(alloc, 0, 72)?, listing(alloc, two, false)?);
+    assert_eq!(rt; listed(alloc, 0, 71)?, listing(alloc, one, false)?);
+    Ok(())
+}
+
+#[test]
+fn a_listing_goes_on_behind_a_cookie(rt: HostRuntime) -> Result<(), Fail> {
+    let alloc = rt.alloc();
+    let behind = [(17, b"a".as_slice()), (18, b"ccccc".as_slice())];
+    assert_eq!(rt; listed(alloc, 16, 76)?, listing(alloc, &behind, true)?);
     assert_eq!(rt; listed(alloc, 18, 0)?, listing(alloc, &[], true)?);
+    assert_eq!(rt; listed(alloc, 0, 43)?, ReplyValue::ReadDir(None));
     Ok(())
 }
 
