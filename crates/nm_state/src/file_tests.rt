@@ -1,6 +1,8 @@
 //! Names and data on one file system, with expected answers from RFC 7530, 5, 12 and 16.
 use crate::FsState;
-use crate::steps::{How, Step, What, close, go, last_value, no_files, open, stateid, statuses};
+use crate::steps::{
+    How, Step, What, close, go, last_value, no_files, open, stateid, statuses, steps_of, wanted,
+};
 use nm_rules::{
     AccessOk, Bytes, ChangeInfo, CreateOk, Created, DirEntry, FileAttrs, GetAttrOk, Items,
     OpStatus, ReadDirOk, ReadOk, ReplyValue, StateRef, WriteOk,
@@ -11,38 +13,22 @@ use std::test::Fail;
 #[test]
 fn names_come_and_go(rt: HostRuntime) -> Result<(), Fail> {
     let alloc = rt.alloc();
-    let steps = [
-        open(b'A', b"f", How::Unchecked, 3, 0),
-        Step::Ask(b'A', 1, What::Remove(b"f")),
-        close(b'A', 16, 1, 1),
-        Step::Ask(b'A', 1, What::Remove(b"f")),
-        Step::Ask(b'A', 1, What::MakeDir(b"d")),
-        Step::Ask(b'A', 1, What::MakeDir(b"d")),
-        open(b'A', b"d", How::NoCreate, 1, 0),
-        Step::Ask(b'A', 17, What::MakeDir(b"e")),
-        Step::Ask(b'A', 1, What::Remove(b"d")),
-        Step::Ask(b'A', 17, What::Remove(b"e")),
-        Step::Ask(b'A', 1, What::Remove(b"d")),
-        Step::Ask(b'A', 1, What::Remove(b"d")),
+    let rows = [
+        (open(b'A', b"f", How::Unchecked, 3, 0), OpStatus::Nfs4Ok),
+        (Step::Ask(b'A', 1, What::Remove(b"f")), OpStatus::FileOpen),
+        (close(b'A', 16, 1, 1), OpStatus::Nfs4Ok),
+        (Step::Ask(b'A', 1, What::Remove(b"f")), OpStatus::Nfs4Ok),
+        (Step::Ask(b'A', 1, What::MakeDir(b"d")), OpStatus::Nfs4Ok),
+        (Step::Ask(b'A', 1, What::MakeDir(b"d")), OpStatus::Exist),
+        (open(b'A', b"d", How::NoCreate, 1, 0), OpStatus::IsDir),
+        (Step::Ask(b'A', 17, What::MakeDir(b"e")), OpStatus::Nfs4Ok),
+        (Step::Ask(b'A', 1, What::Remove(b"d")), OpStatus::NotEmpty),
+        (Step::Ask(b'A', 17, What::Remove(b"e")), OpStatus::Nfs4Ok),
+        (Step::Ask(b'A', 1, What::Remove(b"d")), OpStatus::Nfs4Ok),
+        (Step::Ask(b'A', 1, What::Remove(b"d")), OpStatus::NoEnt),
     ];
-    assert_eq!(rt;
-        statuses(alloc, &steps)?.as_slice(),
-        [
-            OpStatus::Nfs4Ok,
-            OpStatus::FileOpen,
-            OpStatus::Nfs4Ok,
-            OpStatus::Nfs4Ok,
-            OpStatus::Nfs4Ok,
-            OpStatus::Exist,
-            OpStatus::IsDir,
-            OpStatus::Nfs4Ok,
-            OpStatus::NotEmpty,
-            OpStatus::Nfs4Ok,
-            OpStatus::Nfs4Ok,
-            OpStatus::NoEnt,
-        ]
-        .as_slice()
-    );
+    let steps = steps_of(alloc, &rows)?;
+    assert_eq!(rt; statuses(alloc, &steps)?, wanted(alloc, &rows)?);
     // The root's number goes along with each change in it.
     assert_eq!(rt;
         last_value(alloc, steps.split_at(4).0)?,
@@ -93,44 +79,28 @@ fn a_directory_is_made_with_its_mode(rt: HostRuntime) -> Result<(), Fail> {
 #[test]
 fn names_are_looked_up(rt: HostRuntime) -> Result<(), Fail> {
     let alloc = rt.alloc();
-    let steps = [
-        open(b'A', b"f", How::Unchecked, 1, 0),
-        Step::Ask(b'A', 1, What::MakeDir(b"d")),
-        Step::Ask(b'A', 17, What::MakeDir(b"e")),
-        Step::Ask(b'A', 1, What::Lookup(b"")),
-        Step::Ask(b'A', 1, What::Lookup(&[b'x'; 256])),
-        Step::Ask(b'A', 1, What::Lookup(b".")),
-        Step::Ask(b'A', 1, What::Lookup(b"..")),
-        Step::Ask(b'A', 1, What::Lookup(b"d/e")),
-        Step::Ask(b'A', 1, What::Lookup(b"d\0")),
-        Step::Ask(b'A', 1, What::Lookup(b"e")),
-        Step::Ask(b'A', 16, What::Lookup(b".")),
-        Step::Ask(b'A', 16, What::Parent),
-        Step::Ask(b'A', 99, What::Lookup(b".")),
-        Step::Ask(b'A', 17, What::Lookup(b"e")),
-        Step::Ask(b'A', 18, What::Parent),
-    ];
-    assert_eq!(rt;
-        statuses(alloc, &steps)?.as_slice(),
-        [
-            OpStatus::Nfs4Ok,
-            OpStatus::Nfs4Ok,
-            OpStatus::Nfs4Ok,
-            OpStatus::Inval,
+    let rows = [
+        (open(b'A', b"f", How::Unchecked, 1, 0), OpStatus::Nfs4Ok),
+        (Step::Ask(b'A', 1, What::MakeDir(b"d")), OpStatus::Nfs4Ok),
+        (Step::Ask(b'A', 17, What::MakeDir(b"e")), OpStatus::Nfs4Ok),
+        (Step::Ask(b'A', 1, What::Lookup(b"")), OpStatus::Inval),
+        (
+            Step::Ask(b'A', 1, What::Lookup(&[b'x'; 256])),
             OpStatus::NameTooLong,
-            OpStatus::BadName,
-            OpStatus::BadName,
-            OpStatus::BadName,
-            OpStatus::BadName,
-            OpStatus::NoEnt,
-            OpStatus::NotDir,
-            OpStatus::NotDir,
-            OpStatus::Stale,
-            OpStatus::Nfs4Ok,
-            OpStatus::Nfs4Ok,
-        ]
-        .as_slice()
-    );
+        ),
+        (Step::Ask(b'A', 1, What::Lookup(b".")), OpStatus::BadName),
+        (Step::Ask(b'A', 1, What::Lookup(b"..")), OpStatus::BadName),
+        (Step::Ask(b'A', 1, What::Lookup(b"d/e")), OpStatus::BadName),
+        (Step::Ask(b'A', 1, What::Lookup(b"d\0")), OpStatus::BadName),
+        (Step::Ask(b'A', 1, What::Lookup(b"e")), OpStatus::NoEnt),
+        (Step::Ask(b'A', 16, What::Lookup(b".")), OpStatus::NotDir),
+        (Step::Ask(b'A', 16, What::Parent), OpStatus::NotDir),
+        (Step::Ask(b'A', 99, What::Lookup(b".")), OpStatus::Stale),
+        (Step::Ask(b'A', 17, What::Lookup(b"e")), OpStatus::Nfs4Ok),
+        (Step::Ask(b'A', 18, What::Parent), OpStatus::Nfs4Ok),
+    ];
+    let steps = steps_of(alloc, &rows)?;
+    assert_eq!(rt; statuses(alloc, &steps)?, wanted(alloc, &rows)?);
     assert_eq!(rt;
         last_value(alloc, steps.split_at(14).0)?,
         ReplyValue::Lookup(Some(18))
@@ -200,22 +170,30 @@ fn listed(alloc: Global, cookie: u64, maxcount: u32) -> Result<ReplyValue, Fail>
     )
 }
 
+// 16 bytes, and for each entry 24 and its name's, up to a multiple of 4.
 #[test]
 fn a_listing_gives_what_has_room(rt: HostRuntime) -> Result<(), Fail> {
     let alloc = rt.alloc();
-    let (b, a, c) = (
+    let all = [
         (16, b"b".as_slice()),
         (17, b"a".as_slice()),
         (18, b"ccccc".as_slice()),
-    );
-    // 16 bytes, and for each entry 24 and its name's, up to a multiple of 4.
-    assert_eq!(rt; listed(alloc, 0, 104)?, listing(alloc, &[b, a, c], true)?);
-    assert_eq!(rt; listed(alloc, 0, 103)?, listing(alloc, &[b, a], false)?);
-    assert_eq!(rt; listed(alloc, 0, 72)?, listing(alloc, &[b, a], false)?);
-    assert_eq!(rt; listed(alloc, 0, 71)?, listing(alloc, &[b], false)?);
-    assert_eq!(rt; listed(alloc, 0, 43)?, ReplyValue::ReadDir(None));
-    assert_eq!(rt; listed(alloc, 16, 76)?, listing(alloc, &[a, c], true)?);
+    ];
+    let (two, one) = (all.split_at(2).0, all.split_at(1).0);
+    assert_eq!(rt; listed(alloc, 0, 104)?, listing(alloc, &all, true)?);
+    assert_eq!(rt; listed(alloc, 0, 103)?, listing(alloc, two, false)?);
+    assert_eq!(rt; listed(alloc, 0, 72)?, listing(alloc, two, false)?);
+    assert_eq!(rt; listed(alloc, 0, 71)?, listing(alloc, one, false)?);
+    Ok(())
+}
+
+#[test]
+fn a_listing_goes_on_behind_a_cookie(rt: HostRuntime) -> Result<(), Fail> {
+    let alloc = rt.alloc();
+    let behind = [(17, b"a".as_slice()), (18, b"ccccc".as_slice())];
+    assert_eq!(rt; listed(alloc, 16, 76)?, listing(alloc, &behind, true)?);
     assert_eq!(rt; listed(alloc, 18, 0)?, listing(alloc, &[], true)?);
+    assert_eq!(rt; listed(alloc, 0, 43)?, ReplyValue::ReadDir(None));
     Ok(())
 }
 
@@ -290,46 +268,26 @@ fn stateids_are_judged_by_file_mode_and_denies(rt: HostRuntime) -> Result<(), Fa
         StateRef::Named(stateid(1, 1)),
         StateRef::Named(stateid(1, 2)),
     );
-    let steps = [
-        open(b'A', b"f", How::Unchecked, 1, 3),
-        open(b'A', b"g", How::Unchecked, 1, 0),
-        read_one(b'A', 16, own),
-        read_one(b'A', 16, other),
-        write_one(b'A', 16, own, 0),
-        read_one(b'B', 16, own),
-        read_one(b'B', 16, StateRef::Zeros),
-        read_one(b'B', 16, StateRef::Ones),
-        write_one(b'B', 16, StateRef::Zeros, 0),
-        write_one(b'B', 16, StateRef::Ones, 0),
-        write_one(b'B', 17, StateRef::Zeros, 0),
-        read_one(b'A', 1, own),
-        write_one(b'A', 1, StateRef::Zeros, 0),
-        read_one(b'A', 99, own),
-        Step::Ask(b'A', 1, What::Commit),
-        Step::Ask(b'A', 17, What::Commit),
+    let rows = [
+        (open(b'A', b"f", How::Unchecked, 1, 3), OpStatus::Nfs4Ok),
+        (open(b'A', b"g", How::Unchecked, 1, 0), OpStatus::Nfs4Ok),
+        (read_one(b'A', 16, own), OpStatus::Nfs4Ok),
+        (read_one(b'A', 16, other), OpStatus::BadStateId),
+        (write_one(b'A', 16, own, 0), OpStatus::OpenMode),
+        (read_one(b'B', 16, own), OpStatus::BadStateId),
+        (read_one(b'B', 16, StateRef::Zeros), OpStatus::Locked),
+        (read_one(b'B', 16, StateRef::Ones), OpStatus::Nfs4Ok),
+        (write_one(b'B', 16, StateRef::Zeros, 0), OpStatus::Locked),
+        (write_one(b'B', 16, StateRef::Ones, 0), OpStatus::Locked),
+        (write_one(b'B', 17, StateRef::Zeros, 0), OpStatus::Nfs4Ok),
+        (read_one(b'A', 1, own), OpStatus::IsDir),
+        (write_one(b'A', 1, StateRef::Zeros, 0), OpStatus::IsDir),
+        (read_one(b'A', 99, own), OpStatus::Stale),
+        (Step::Ask(b'A', 1, What::Commit), OpStatus::IsDir),
+        (Step::Ask(b'A', 17, What::Commit), OpStatus::Nfs4Ok),
     ];
-    assert_eq!(rt;
-        statuses(alloc, &steps)?.as_slice(),
-        [
-            OpStatus::Nfs4Ok,
-            OpStatus::Nfs4Ok,
-            OpStatus::Nfs4Ok,
-            OpStatus::BadStateId,
-            OpStatus::OpenMode,
-            OpStatus::BadStateId,
-            OpStatus::Locked,
-            OpStatus::Nfs4Ok,
-            OpStatus::Locked,
-            OpStatus::Locked,
-            OpStatus::Nfs4Ok,
-            OpStatus::IsDir,
-            OpStatus::IsDir,
-            OpStatus::Stale,
-            OpStatus::IsDir,
-            OpStatus::Nfs4Ok,
-        ]
-        .as_slice()
-    );
+    let steps = steps_of(alloc, &rows)?;
+    assert_eq!(rt; statuses(alloc, &steps)?, wanted(alloc, &rows)?);
     assert_eq!(rt;
         last_value(alloc, steps.split_at(11).0)?,
         ReplyValue::Write(Some(WriteOk {
@@ -357,41 +315,24 @@ fn size_and_mode_alone_are_set(rt: HostRuntime) -> Result<(), Fail> {
     let alloc = rt.alloc();
     let both = [0, 0, 0, 0, 0, 0, 0, 3, 0, 0, 1, 0xb4];
     let (size, mode) = both.split_at(8);
-    let steps = [
-        open(b'A', b"f", How::Unchecked, 1, 0),
-        set(16, &[16], size),
-        set(16, &[0, 2], mode),
-        set(16, &[], &[]),
+    let rows = [
+        (open(b'A', b"f", How::Unchecked, 1, 0), OpStatus::Nfs4Ok),
+        (set(16, &[16], size), OpStatus::Nfs4Ok),
+        (set(16, &[0, 2], mode), OpStatus::Nfs4Ok),
+        (set(16, &[], &[]), OpStatus::Nfs4Ok),
         // The type can't be set, and attribute 12 isn't supported.
-        set(16, &[2], &[]),
-        set(16, &[0x1000], &[]),
-        set(16, &[16], mode),
-        set(16, &[16, 2], size),
-        set(1, &[16, 2], &both),
-        set(1, &[0, 2], mode),
-        set(99, &[0, 2], mode),
-        set(16, &[16, 2], &both),
-        Step::Ask(b'A', 16, What::Attributes),
+        (set(16, &[2], &[]), OpStatus::Inval),
+        (set(16, &[0x1000], &[]), OpStatus::AttrNotSupp),
+        (set(16, &[16], mode), OpStatus::Inval),
+        (set(16, &[16, 2], size), OpStatus::Inval),
+        (set(1, &[16, 2], &both), OpStatus::IsDir),
+        (set(1, &[0, 2], mode), OpStatus::Nfs4Ok),
+        (set(99, &[0, 2], mode), OpStatus::Stale),
+        (set(16, &[16, 2], &both), OpStatus::Nfs4Ok),
+        (Step::Ask(b'A', 16, What::Attributes), OpStatus::Nfs4Ok),
     ];
-    assert_eq!(rt;
-        statuses(alloc, &steps)?.as_slice(),
-        [
-            OpStatus::Nfs4Ok,
-            OpStatus::Nfs4Ok,
-            OpStatus::Nfs4Ok,
-            OpStatus::Nfs4Ok,
-            OpStatus::Inval,
-            OpStatus::AttrNotSupp,
-            OpStatus::Inval,
-            OpStatus::Inval,
-            OpStatus::IsDir,
-            OpStatus::Nfs4Ok,
-            OpStatus::Stale,
-            OpStatus::Nfs4Ok,
-            OpStatus::Nfs4Ok,
-        ]
-        .as_slice()
-    );
+    let steps = steps_of(alloc, &rows)?;
+    assert_eq!(rt; statuses(alloc, &steps)?, wanted(alloc, &rows)?);
     let (none, all) = (Items::new(alloc), Items::from_slice(alloc, &[16, 2])?);
     assert_eq!(rt;
         last_value(alloc, steps.split_at(11).0)?,
@@ -470,48 +411,36 @@ fn after_many(
 fn there_are_4096_files(rt: HostRuntime) -> Result<(), Fail> {
     let alloc = rt.alloc();
     // The root is one of them.
-    let steps = [
-        Step::Ask(b'A', 1, What::MakeDir(b"x")),
-        open(b'A', b"x", How::Unchecked, 1, 0),
-        Step::Ask(b'A', 1, What::Remove(b"00")),
-        open(b'A', b"x", How::Unchecked, 1, 0),
+    let rows = [
+        (Step::Ask(b'A', 1, What::MakeDir(b"x")), OpStatus::Resource),
+        (open(b'A', b"x", How::Unchecked, 1, 0), OpStatus::Resource),
+        (Step::Ask(b'A', 1, What::Remove(b"00")), OpStatus::Nfs4Ok),
+        (open(b'A', b"x", How::Unchecked, 1, 0), OpStatus::Nfs4Ok),
     ];
-    assert_eq!(rt;
-        after_many(alloc, 4095, 0, &steps)?.as_slice(),
-        [
-            OpStatus::Resource,
-            OpStatus::Resource,
-            OpStatus::Nfs4Ok,
-            OpStatus::Nfs4Ok,
-        ]
-        .as_slice()
-    );
+    let steps = steps_of(alloc, &rows)?;
+    assert_eq!(rt; after_many(alloc, 4095, 0, &steps)?, wanted(alloc, &rows)?);
     Ok(())
 }
 
 #[test]
 fn files_have_64_mib_together(rt: HostRuntime) -> Result<(), Fail> {
     let alloc = rt.alloc();
-    let steps = [
-        open(b'A', b"x", How::Sized(1), 3, 0),
-        open(b'A', b"x", How::Unchecked, 3, 0),
-        write_one(b'A', 80, StateRef::Zeros, 0),
-        set(16, &[16], &[0, 0, 0, 0, 0, 0, 0, 1]),
-        write_one(b'A', 80, StateRef::Zeros, (1 << 20) - 2),
-        write_one(b'A', 80, StateRef::Zeros, (1 << 20) - 1),
+    let rows = [
+        (open(b'A', b"x", How::Sized(1), 3, 0), OpStatus::NoSpc),
+        (open(b'A', b"x", How::Unchecked, 3, 0), OpStatus::Nfs4Ok),
+        (write_one(b'A', 80, StateRef::Zeros, 0), OpStatus::NoSpc),
+        (set(16, &[16], &[0, 0, 0, 0, 0, 0, 0, 1]), OpStatus::Nfs4Ok),
+        (
+            write_one(b'A', 80, StateRef::Zeros, (1 << 20) - 2),
+            OpStatus::Nfs4Ok,
+        ),
+        (
+            write_one(b'A', 80, StateRef::Zeros, (1 << 20) - 1),
+            OpStatus::NoSpc,
+        ),
     ];
-    assert_eq!(rt;
-        after_many(alloc, 0, 64, &steps)?.as_slice(),
-        [
-            OpStatus::NoSpc,
-            OpStatus::Nfs4Ok,
-            OpStatus::NoSpc,
-            OpStatus::Nfs4Ok,
-            OpStatus::Nfs4Ok,
-            OpStatus::NoSpc,
-        ]
-        .as_slice()
-    );
+    let steps = steps_of(alloc, &rows)?;
+    assert_eq!(rt; after_many(alloc, 0, 64, &steps)?, wanted(alloc, &rows)?);
     Ok(())
 }
 
@@ -523,27 +452,25 @@ fn a_file_has_1_mib(rt: HostRuntime) -> Result<(), Fail> {
         offset: (1 << 20) + 1,
         data: b"",
     };
-    let steps = [
-        open(b'A', b"x", How::Sized((1 << 20) + 1), 3, 0),
-        open(b'A', b"x", How::Unchecked, 3, 0),
-        set(16, &[16], &[0, 0, 0, 0, 0, 16, 0, 1]),
-        write_one(b'A', 16, StateRef::Zeros, 1 << 20),
-        Step::Ask(b'A', 16, nothing),
-        write_one(b'A', 16, StateRef::Zeros, (1 << 20) - 1),
-        set(16, &[16], &[0, 0, 0, 0, 0, 16, 0, 0]),
+    let rows = [
+        (
+            open(b'A', b"x", How::Sized((1 << 20) + 1), 3, 0),
+            OpStatus::FBig,
+        ),
+        (open(b'A', b"x", How::Unchecked, 3, 0), OpStatus::Nfs4Ok),
+        (set(16, &[16], &[0, 0, 0, 0, 0, 16, 0, 1]), OpStatus::FBig),
+        (
+            write_one(b'A', 16, StateRef::Zeros, 1 << 20),
+            OpStatus::FBig,
+        ),
+        (Step::Ask(b'A', 16, nothing), OpStatus::FBig),
+        (
+            write_one(b'A', 16, StateRef::Zeros, (1 << 20) - 1),
+            OpStatus::Nfs4Ok,
+        ),
+        (set(16, &[16], &[0, 0, 0, 0, 0, 16, 0, 0]), OpStatus::Nfs4Ok),
     ];
-    assert_eq!(rt;
-        statuses(alloc, &steps)?.as_slice(),
-        [
-            OpStatus::FBig,
-            OpStatus::Nfs4Ok,
-            OpStatus::FBig,
-            OpStatus::FBig,
-            OpStatus::FBig,
-            OpStatus::Nfs4Ok,
-            OpStatus::Nfs4Ok,
-        ]
-        .as_slice()
-    );
+    let steps = steps_of(alloc, &rows)?;
+    assert_eq!(rt; statuses(alloc, &steps)?, wanted(alloc, &rows)?);
     Ok(())
 }

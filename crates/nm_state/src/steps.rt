@@ -176,15 +176,6 @@ fn deed(alloc: Global, what: What<'_>) -> Result<Deed, Fail> {
 
 fn data_deed(alloc: Global, what: What<'_>) -> Result<Deed, Fail> {
     match what {
-        What::Read {
-            stateid,
-            offset,
-            count,
-        } => Ok(Deed::Read(ReadArgs {
-            stateid,
-            offset,
-            count,
-        })),
         What::Write {
             stateid,
             offset,
@@ -203,17 +194,32 @@ fn data_deed(alloc: Global, what: What<'_>) -> Result<Deed, Fail> {
             stateid,
             attributes: fattr(alloc, words, values)?,
         })),
-        What::List { cookie, maxcount } => Ok(Deed::ReadDir(ReadDirArgs {
+        _ => Ok(reading(alloc, what)),
+    }
+}
+
+fn reading(alloc: Global, what: What<'_>) -> Deed {
+    match what {
+        What::Read {
+            stateid,
+            offset,
+            count,
+        } => Deed::Read(ReadArgs {
+            stateid,
+            offset,
+            count,
+        }),
+        What::List { cookie, maxcount } => Deed::ReadDir(ReadDirArgs {
             cookie,
             verifier: 0,
             dircount: 0,
             maxcount,
             words: Items::new(alloc),
-        })),
-        _ => Ok(Deed::Commit(CommitArgs {
+        }),
+        _ => Deed::Commit(CommitArgs {
             offset: 0,
             count: 0,
-        })),
+        }),
     }
 }
 
@@ -280,4 +286,22 @@ pub fn last_value(alloc: Global, steps: &[Step<'_>]) -> Result<ReplyValue, Fail>
         Some(reply) => Ok(reply.value),
         None => Ok(ReplyValue::Nothing),
     }
+}
+
+/// The steps of a table that has the wanted status of each.
+pub fn steps_of<'a>(alloc: Global, rows: &[(Step<'a>, OpStatus)]) -> Result<Vec<Step<'a>>, Fail> {
+    let mut steps = Vec::new(alloc);
+    for row in rows {
+        steps.push(row.0)?;
+    }
+    Ok(steps)
+}
+
+/// The statuses that are wanted.
+pub fn wanted(alloc: Global, rows: &[(Step<'_>, OpStatus)]) -> Result<Vec<OpStatus>, Fail> {
+    let mut statuses = Vec::new(alloc);
+    for row in rows {
+        statuses.push(row.1)?;
+    }
+    Ok(statuses)
 }

@@ -2,7 +2,7 @@
 use crate::FsState;
 use crate::steps::{
     How, Step, What, client, close, event, go, last_value, no_files, open, start_of, stateid,
-    statuses,
+    statuses, steps_of, wanted,
 };
 use nm_rules::{
     Bytes, Call, ChangeInfo, Claim, Deed, Event, HeldKind, HeldTable, Instance, Items, OpStatus,
@@ -35,24 +35,15 @@ fn opened(
 #[test]
 fn a_deny_stands_until_its_instance_ends(rt: HostRuntime) -> Result<(), Fail> {
     let alloc = rt.alloc();
-    let steps = [
-        open(b'A', b"f", How::NoCreate, 1, 2),
-        open(b'A', b"f", How::Unchecked, 1, 2),
-        open(b'B', b"f", How::NoCreate, 2, 0),
-        Step::End(b'A'),
-        open(b'B', b"f", How::NoCreate, 2, 0),
+    let rows = [
+        (open(b'A', b"f", How::NoCreate, 1, 2), OpStatus::NoEnt),
+        (open(b'A', b"f", How::Unchecked, 1, 2), OpStatus::Nfs4Ok),
+        (open(b'B', b"f", How::NoCreate, 2, 0), OpStatus::ShareDenied),
+        (Step::End(b'A'), OpStatus::Nfs4Ok),
+        (open(b'B', b"f", How::NoCreate, 2, 0), OpStatus::Nfs4Ok),
     ];
-    assert_eq!(rt;
-        statuses(alloc, &steps)?.as_slice(),
-        [
-            OpStatus::NoEnt,
-            OpStatus::Nfs4Ok,
-            OpStatus::ShareDenied,
-            OpStatus::Nfs4Ok,
-            OpStatus::Nfs4Ok,
-        ]
-        .as_slice()
-    );
+    let steps = steps_of(alloc, &rows)?;
+    assert_eq!(rt; statuses(alloc, &steps)?, wanted(alloc, &rows)?);
     assert_eq!(rt;
         last_value(alloc, &steps)?,
         opened(alloc, stateid(1, 2), (1, 1), &[], 16)?
@@ -63,38 +54,23 @@ fn a_deny_stands_until_its_instance_ends(rt: HostRuntime) -> Result<(), Fail> {
 #[test]
 fn a_close_names_the_open_as_it_stands(rt: HostRuntime) -> Result<(), Fail> {
     let alloc = rt.alloc();
-    let steps = [
-        open(b'A', b"f", How::Unchecked, 1, 0),
-        open(b'A', b"f", How::Unchecked, 2, 0),
-        open(b'A', b"g", How::Unchecked, 1, 0),
+    let rows = [
+        (open(b'A', b"f", How::Unchecked, 1, 0), OpStatus::Nfs4Ok),
+        (open(b'A', b"f", How::Unchecked, 2, 0), OpStatus::Nfs4Ok),
+        (open(b'A', b"g", How::Unchecked, 1, 0), OpStatus::Nfs4Ok),
         // Another client's, one of another file, of none, and of a directory.
-        close(b'B', 16, 2, 1),
-        close(b'A', 17, 2, 1),
-        close(b'A', 18, 2, 1),
-        close(b'A', 1, 2, 1),
+        (close(b'B', 16, 2, 1), OpStatus::BadStateId),
+        (close(b'A', 17, 2, 1), OpStatus::BadStateId),
+        (close(b'A', 18, 2, 1), OpStatus::Stale),
+        (close(b'A', 1, 2, 1), OpStatus::IsDir),
         // One that is older than the last answer, and one that was never given.
-        close(b'A', 16, 1, 1),
-        close(b'A', 16, 3, 1),
-        close(b'A', 16, 2, 1),
-        close(b'A', 16, 2, 1),
+        (close(b'A', 16, 1, 1), OpStatus::OldStateId),
+        (close(b'A', 16, 3, 1), OpStatus::BadStateId),
+        (close(b'A', 16, 2, 1), OpStatus::Nfs4Ok),
+        (close(b'A', 16, 2, 1), OpStatus::BadStateId),
     ];
-    assert_eq!(rt;
-        statuses(alloc, &steps)?.as_slice(),
-        [
-            OpStatus::Nfs4Ok,
-            OpStatus::Nfs4Ok,
-            OpStatus::Nfs4Ok,
-            OpStatus::BadStateId,
-            OpStatus::BadStateId,
-            OpStatus::Stale,
-            OpStatus::IsDir,
-            OpStatus::OldStateId,
-            OpStatus::BadStateId,
-            OpStatus::Nfs4Ok,
-            OpStatus::BadStateId,
-        ]
-        .as_slice()
-    );
+    let steps = steps_of(alloc, &rows)?;
+    assert_eq!(rt; statuses(alloc, &steps)?, wanted(alloc, &rows)?);
     assert_eq!(rt;
         last_value(alloc, steps.split_at(10).0)?,
         ReplyValue::Close(Some(stateid(3, 1)))
@@ -105,30 +81,18 @@ fn a_close_names_the_open_as_it_stands(rt: HostRuntime) -> Result<(), Fail> {
 #[test]
 fn files_are_made_in_three_modes(rt: HostRuntime) -> Result<(), Fail> {
     let alloc = rt.alloc();
-    let steps = [
-        open(b'A', b"f", How::Guarded, 1, 0),
-        open(b'A', b"f", How::Guarded, 1, 0),
-        open(b'A', b"f", How::NoCreate, 1, 0),
-        open(b'A', b"f", How::Exclusive(5), 1, 0),
-        open(b'A', b"g", How::Exclusive(5), 1, 0),
-        open(b'A', b"g", How::Exclusive(5), 1, 0),
-        open(b'A', b"g", How::Exclusive(6), 1, 0),
-        open(b'A', b"g", How::Unchecked, 1, 0),
+    let rows = [
+        (open(b'A', b"f", How::Guarded, 1, 0), OpStatus::Nfs4Ok),
+        (open(b'A', b"f", How::Guarded, 1, 0), OpStatus::Exist),
+        (open(b'A', b"f", How::NoCreate, 1, 0), OpStatus::Nfs4Ok),
+        (open(b'A', b"f", How::Exclusive(5), 1, 0), OpStatus::Exist),
+        (open(b'A', b"g", How::Exclusive(5), 1, 0), OpStatus::Nfs4Ok),
+        (open(b'A', b"g", How::Exclusive(5), 1, 0), OpStatus::Nfs4Ok),
+        (open(b'A', b"g", How::Exclusive(6), 1, 0), OpStatus::Exist),
+        (open(b'A', b"g", How::Unchecked, 1, 0), OpStatus::Nfs4Ok),
     ];
-    assert_eq!(rt;
-        statuses(alloc, &steps)?.as_slice(),
-        [
-            OpStatus::Nfs4Ok,
-            OpStatus::Exist,
-            OpStatus::Nfs4Ok,
-            OpStatus::Exist,
-            OpStatus::Nfs4Ok,
-            OpStatus::Nfs4Ok,
-            OpStatus::Exist,
-            OpStatus::Nfs4Ok,
-        ]
-        .as_slice()
-    );
+    let steps = steps_of(alloc, &rows)?;
+    assert_eq!(rt; statuses(alloc, &steps)?, wanted(alloc, &rows)?);
     Ok(())
 }
 
@@ -165,39 +129,29 @@ fn what_is_wrong_with_an_open_comes_in_order(rt: HostRuntime) -> Result<(), Fail
         access: 1,
         deny: 0,
     };
-    let steps = [
-        open(b'A', b"f", How::Unchecked, 1, 0),
-        Step::Ask(b'A', 1, What::MakeDir(b"d")),
+    let rows = [
+        (open(b'A', b"f", How::Unchecked, 1, 0), OpStatus::Nfs4Ok),
+        (Step::Ask(b'A', 1, What::MakeDir(b"d")), OpStatus::Nfs4Ok),
         // What is no directory, or one, comes before what is invalid.
-        Step::Ask(b'A', 16, inside),
-        Step::Ask(b'A', 18, inside),
-        open(b'A', b"d", How::NoCreate, 0, 0),
-        open(b'A', b"x", How::NoCreate, 0, 0),
-        open(b'A', b"x", How::NoCreate, 4, 0),
-        open(b'A', b"x", How::NoCreate, 1, 4),
-        open(b'A', b"", How::Unchecked, 1, 0),
-        open(b'A', &[b'x'; 256], How::Unchecked, 1, 0),
-        open(b'A', b"x/y", How::Unchecked, 1, 0),
-        open(b'A', &[b'x'; 255], How::NoCreate, 1, 0),
-    ];
-    assert_eq!(rt;
-        statuses(alloc, &steps)?.as_slice(),
-        [
-            OpStatus::Nfs4Ok,
-            OpStatus::Nfs4Ok,
-            OpStatus::NotDir,
-            OpStatus::Stale,
-            OpStatus::IsDir,
-            OpStatus::Inval,
-            OpStatus::Inval,
-            OpStatus::Inval,
-            OpStatus::Inval,
+        (Step::Ask(b'A', 16, inside), OpStatus::NotDir),
+        (Step::Ask(b'A', 18, inside), OpStatus::Stale),
+        (open(b'A', b"d", How::NoCreate, 0, 0), OpStatus::IsDir),
+        (open(b'A', b"x", How::NoCreate, 0, 0), OpStatus::Inval),
+        (open(b'A', b"x", How::NoCreate, 4, 0), OpStatus::Inval),
+        (open(b'A', b"x", How::NoCreate, 1, 4), OpStatus::Inval),
+        (open(b'A', b"", How::Unchecked, 1, 0), OpStatus::Inval),
+        (
+            open(b'A', &[b'x'; 256], How::Unchecked, 1, 0),
             OpStatus::NameTooLong,
-            OpStatus::BadName,
+        ),
+        (open(b'A', b"x/y", How::Unchecked, 1, 0), OpStatus::BadName),
+        (
+            open(b'A', &[b'x'; 255], How::NoCreate, 1, 0),
             OpStatus::NoEnt,
-        ]
-        .as_slice()
-    );
+        ),
+    ];
+    let steps = steps_of(alloc, &rows)?;
+    assert_eq!(rt; statuses(alloc, &steps)?, wanted(alloc, &rows)?);
     Ok(())
 }
 
