@@ -23,14 +23,10 @@ pub enum How {
 /// What is asked.
 #[derive(Clone, Copy)]
 pub enum What<'a> {
-    /// By the owner `o`.
-    Open {
-        name: &'a [u8],
-        how: How,
-        access: u32,
-        deny: u32,
-    },
-    Close(StateId),
+    /// By the owner `o`: a name, how, access and deny.
+    Open(&'a [u8], How, u32, u32),
+    /// Of the stateid with that seqid and that counter.
+    Close(u32, u64),
     /// A directory of mode 0700.
     MakeDir(&'a [u8]),
     Remove(&'a [u8]),
@@ -39,26 +35,14 @@ pub enum What<'a> {
     Access(u32),
     /// Its size alone is asked.
     Attributes,
-    Read {
-        stateid: StateRef,
-        offset: u64,
-        count: u32,
-    },
-    Write {
-        stateid: StateRef,
-        offset: u64,
-        data: &'a [u8],
-    },
-    Set {
-        stateid: StateRef,
-        words: &'a [u32],
-        values: &'a [u8],
-    },
-    /// Without attributes.
-    List {
-        cookie: u64,
-        maxcount: u32,
-    },
+    /// By a stateid: an offset and a count.
+    Read(StateRef, u64, u32),
+    /// By a stateid: an offset and bytes.
+    Write(StateRef, u64, &'a [u8]),
+    /// By the stateid of all zeros: the words of a bitmap and values.
+    Set(&'a [u32], &'a [u8]),
+    /// Without attributes: behind a cookie, up to a maxcount.
+    List(u64, u32),
     Commit,
 }
 
@@ -96,18 +80,12 @@ pub fn stateid(seqid: u32, counter: u64) -> StateId {
 
 /// An OPEN in the root.
 pub fn open(letter: u8, name: &[u8], how: How, access: u32, deny: u32) -> Step<'_> {
-    let what = What::Open {
-        name,
-        how,
-        access,
-        deny,
-    };
-    Step::Ask(letter, 1, what)
+    Step::Ask(letter, 1, What::Open(name, how, access, deny))
 }
 
 /// A CLOSE.
 pub fn close(letter: u8, file: u64, seqid: u32, counter: u64) -> Step<'static> {
-    Step::Ask(letter, file, What::Close(stateid(seqid, counter)))
+    Step::Ask(letter, file, What::Close(seqid, counter))
 }
 
 fn fattr(alloc: Global, words: &[u32], values: &[u8]) -> Result<Fattr, Fail> {
@@ -148,15 +126,10 @@ fn make_dir(alloc: Global, name: &[u8]) -> Result<Deed, Fail> {
 
 fn deed(alloc: Global, what: What<'_>) -> Result<Deed, Fail> {
     match what {
-        What::Open {
-            name,
-            how,
-            access,
-            deny,
-        } => open_deed(alloc, name, how, access, deny),
-        What::Close(id) => Ok(Deed::Close(CloseArgs {
+        What::Open(name, how, access, deny) => open_deed(alloc, name, how, access, deny),
+        What::Close(seqid, counter) => Ok(Deed::Close(CloseArgs {
             seqid: 2,
-            stateid: StateRef::Named(id),
+            stateid: StateRef::Named(stateid(seqid, counter)),
         })),
         What::MakeDir(name) => make_dir(alloc, name),
         What::Remove(name) => Ok(Deed::Remove(RemoveArgs {
@@ -176,22 +149,14 @@ fn deed(alloc: Global, what: What<'_>) -> Result<Deed, Fail> {
 
 fn data_deed(alloc: Global, what: What<'_>) -> Result<Deed, Fail> {
     match what {
-        What::Write {
-            stateid,
-            offset,
-            data,
-        } => Ok(Deed::Write(WriteArgs {
+        What::Write(stateid, offset, data) => Ok(Deed::Write(WriteArgs {
             stateid,
             offset,
             stable: Stable::Unstable,
             data: Bytes::from_slice(alloc, data)?,
         })),
-        What::Set {
-            stateid,
-            words,
-            values,
-        } => Ok(Deed::SetAttr(SetAttrArgs {
-            stateid,
+        What::Set(words, values) => Ok(Deed::SetAttr(SetAttrArgs {
+            stateid: StateRef::Zeros,
             attributes: fattr(alloc, words, values)?,
         })),
         _ => Ok(reading(alloc, what)),
@@ -200,16 +165,12 @@ fn data_deed(alloc: Global, what: What<'_>) -> Result<Deed, Fail> {
 
 fn reading(alloc: Global, what: What<'_>) -> Deed {
     match what {
-        What::Read {
-            stateid,
-            offset,
-            count,
-        } => Deed::Read(ReadArgs {
+        What::Read(stateid, offset, count) => Deed::Read(ReadArgs {
             stateid,
             offset,
             count,
         }),
-        What::List { cookie, maxcount } => Deed::ReadDir(ReadDirArgs {
+        What::List(cookie, maxcount) => Deed::ReadDir(ReadDirArgs {
             cookie,
             verifier: 0,
             dircount: 0,
@@ -265,43 +226,37 @@ pub fn go(alloc: Global, state: &mut FsState, steps: &[Step<'_>]) -> Result<Vec<
     Ok(replies)
 }
 
-/// The replies to these, on a file system that has no file before.
-pub fn replies(alloc: Global, steps: &[Step<'_>]) -> Result<Vec<Reply>, Fail> {
-    let mut state = no_files(alloc)?;
-    go(alloc, &mut state, steps)
-}
+/// A step, and the status that it is to have.
+pub type Row = (Step<'static>, OpStatus);
 
-/// Their statuses.
-pub fn statuses(alloc: Global, steps: &[Step<'_>]) -> Result<Vec<OpStatus>, Fail> {
-    let mut statuses = Vec::new(alloc);
-    for reply in &replies(alloc, steps)? {
-        statuses.push(reply.status)?;
+/// The first of these, carried out one after the other, whose status isn't the wanted one.
+pub fn first_other(
+    alloc: Global,
+    state: &mut FsState,
+    rows: &[Row],
+) -> Result<Option<(usize, OpStatus)>, Fail> {
+    let mut other = None;
+    for (at, row) in rows.iter().enumerate() {
+        let event = event(alloc, row.0)?;
+        let status = reply(state, &event)?.status;
+        if other.is_none() && status != row.1 {
+            other = Some((at, status));
+        }
     }
-    Ok(statuses)
+    Ok(other)
 }
 
-/// The value of the last one.
+/// The same, on a file system that has no file before.
+pub fn first_other_of(alloc: Global, rows: &[Row]) -> Result<Option<(usize, OpStatus)>, Fail> {
+    let mut state = no_files(alloc)?;
+    first_other(alloc, &mut state, rows)
+}
+
+/// The value of the last of these, on a file system that has no file before.
 pub fn last_value(alloc: Global, steps: &[Step<'_>]) -> Result<ReplyValue, Fail> {
-    match replies(alloc, steps)?.pop() {
+    let mut state = no_files(alloc)?;
+    match go(alloc, &mut state, steps)?.pop() {
         Some(reply) => Ok(reply.value),
         None => Ok(ReplyValue::Nothing),
     }
-}
-
-/// The steps of a table that has the wanted status of each.
-pub fn steps_of<'a>(alloc: Global, rows: &[(Step<'a>, OpStatus)]) -> Result<Vec<Step<'a>>, Fail> {
-    let mut steps = Vec::new(alloc);
-    for row in rows {
-        steps.push(row.0)?;
-    }
-    Ok(steps)
-}
-
-/// The statuses that are wanted.
-pub fn wanted(alloc: Global, rows: &[(Step<'_>, OpStatus)]) -> Result<Vec<OpStatus>, Fail> {
-    let mut statuses = Vec::new(alloc);
-    for row in rows {
-        statuses.push(row.1)?;
-    }
-    Ok(statuses)
 }

@@ -1,157 +1,166 @@
 //! Opens on one file system, with expected answers from RFC 7530, 9.9, 16.2 and 16.16.
-use crate::FsState;
 use crate::steps::{
-    How, Step, What, client, close, event, go, last_value, no_files, open, start_of, stateid,
-    statuses, steps_of, wanted,
+    How, Row, Step, What, client, close, first_other_of, go, no_files, open, stateid,
 };
 use nm_rules::{
-    Bytes, Call, ChangeInfo, Claim, Deed, Event, HeldKind, HeldTable, Instance, Items, OpStatus,
-    OpenArgs, OpenDelegation, OpenOk, OpenType, Opened, ReplyValue, StateId, StateRef, Verdict,
+    Bytes, Call, Claim, Deed, Event, HeldKind, HeldTable, Instance, OpStatus, OpenArgs, OpenType,
+    StateId, StateRef, Verdict,
 };
 use std::alloc::Global;
 use std::test::Fail;
 
-// The value of an OPEN.
-fn opened(
-    alloc: Global,
-    stateid: StateId,
-    change: (u64, u64),
-    attrset: &[u32],
-    file: u64,
-) -> Result<ReplyValue, Fail> {
-    let ok = OpenOk {
-        stateid,
-        cinfo: ChangeInfo {
-            before: change.0,
-            after: change.1,
-        },
-        rflags: 4,
-        attrset: Items::from_slice(alloc, attrset)?,
-        delegation: OpenDelegation::None,
-    };
-    Ok(ReplyValue::Open(Some(Opened { ok, file })))
-}
+const DENIED: [Row; 5] = [
+    (
+        Step::Ask(b'A', 1, What::Open(b"f", How::NoCreate, 1, 2)),
+        OpStatus::NoEnt,
+    ),
+    (
+        Step::Ask(b'A', 1, What::Open(b"f", How::Unchecked, 1, 2)),
+        OpStatus::Nfs4Ok,
+    ),
+    (
+        Step::Ask(b'B', 1, What::Open(b"f", How::NoCreate, 2, 0)),
+        OpStatus::ShareDenied,
+    ),
+    (Step::End(b'A'), OpStatus::Nfs4Ok),
+    (
+        Step::Ask(b'B', 1, What::Open(b"f", How::NoCreate, 2, 0)),
+        OpStatus::Nfs4Ok,
+    ),
+];
 
 #[test]
 fn a_deny_stands_until_its_instance_ends(rt: HostRuntime) -> Result<(), Fail> {
-    let alloc = rt.alloc();
-    let rows = [
-        (open(b'A', b"f", How::NoCreate, 1, 2), OpStatus::NoEnt),
-        (open(b'A', b"f", How::Unchecked, 1, 2), OpStatus::Nfs4Ok),
-        (open(b'B', b"f", How::NoCreate, 2, 0), OpStatus::ShareDenied),
-        (Step::End(b'A'), OpStatus::Nfs4Ok),
-        (open(b'B', b"f", How::NoCreate, 2, 0), OpStatus::Nfs4Ok),
-    ];
-    let steps = steps_of(alloc, &rows)?;
-    assert_eq!(rt; statuses(alloc, &steps)?, wanted(alloc, &rows)?);
-    assert_eq!(rt;
-        last_value(alloc, &steps)?,
-        opened(alloc, stateid(1, 2), (1, 1), &[], 16)?
-    );
+    assert_eq!(rt; first_other_of(rt.alloc(), &DENIED)?, None);
     Ok(())
 }
 
+const CLOSES: [Row; 11] = [
+    (
+        Step::Ask(b'A', 1, What::Open(b"f", How::Unchecked, 1, 0)),
+        OpStatus::Nfs4Ok,
+    ),
+    (
+        Step::Ask(b'A', 1, What::Open(b"f", How::Unchecked, 2, 0)),
+        OpStatus::Nfs4Ok,
+    ),
+    (
+        Step::Ask(b'A', 1, What::Open(b"g", How::Unchecked, 1, 0)),
+        OpStatus::Nfs4Ok,
+    ),
+    // Another client's, one of another file, of none, and of a directory.
+    (Step::Ask(b'B', 16, What::Close(2, 1)), OpStatus::BadStateId),
+    (Step::Ask(b'A', 17, What::Close(2, 1)), OpStatus::BadStateId),
+    (Step::Ask(b'A', 18, What::Close(2, 1)), OpStatus::Stale),
+    (Step::Ask(b'A', 1, What::Close(2, 1)), OpStatus::IsDir),
+    // One that is older than the last answer, and one that was never given.
+    (Step::Ask(b'A', 16, What::Close(1, 1)), OpStatus::OldStateId),
+    (Step::Ask(b'A', 16, What::Close(3, 1)), OpStatus::BadStateId),
+    (Step::Ask(b'A', 16, What::Close(2, 1)), OpStatus::Nfs4Ok),
+    (Step::Ask(b'A', 16, What::Close(2, 1)), OpStatus::BadStateId),
+];
+
 #[test]
 fn a_close_names_the_open_as_it_stands(rt: HostRuntime) -> Result<(), Fail> {
-    let alloc = rt.alloc();
-    let rows = [
-        (open(b'A', b"f", How::Unchecked, 1, 0), OpStatus::Nfs4Ok),
-        (open(b'A', b"f", How::Unchecked, 2, 0), OpStatus::Nfs4Ok),
-        (open(b'A', b"g", How::Unchecked, 1, 0), OpStatus::Nfs4Ok),
-        // Another client's, one of another file, of none, and of a directory.
-        (close(b'B', 16, 2, 1), OpStatus::BadStateId),
-        (close(b'A', 17, 2, 1), OpStatus::BadStateId),
-        (close(b'A', 18, 2, 1), OpStatus::Stale),
-        (close(b'A', 1, 2, 1), OpStatus::IsDir),
-        // One that is older than the last answer, and one that was never given.
-        (close(b'A', 16, 1, 1), OpStatus::OldStateId),
-        (close(b'A', 16, 3, 1), OpStatus::BadStateId),
-        (close(b'A', 16, 2, 1), OpStatus::Nfs4Ok),
-        (close(b'A', 16, 2, 1), OpStatus::BadStateId),
-    ];
-    let steps = steps_of(alloc, &rows)?;
-    assert_eq!(rt; statuses(alloc, &steps)?, wanted(alloc, &rows)?);
-    assert_eq!(rt;
-        last_value(alloc, steps.split_at(10).0)?,
-        ReplyValue::Close(Some(stateid(3, 1)))
-    );
+    assert_eq!(rt; first_other_of(rt.alloc(), &CLOSES)?, None);
     Ok(())
 }
+
+const MAKINGS: [Row; 8] = [
+    (
+        Step::Ask(b'A', 1, What::Open(b"f", How::Guarded, 1, 0)),
+        OpStatus::Nfs4Ok,
+    ),
+    (
+        Step::Ask(b'A', 1, What::Open(b"f", How::Guarded, 1, 0)),
+        OpStatus::Exist,
+    ),
+    (
+        Step::Ask(b'A', 1, What::Open(b"f", How::NoCreate, 1, 0)),
+        OpStatus::Nfs4Ok,
+    ),
+    (
+        Step::Ask(b'A', 1, What::Open(b"f", How::Exclusive(5), 1, 0)),
+        OpStatus::Exist,
+    ),
+    (
+        Step::Ask(b'A', 1, What::Open(b"g", How::Exclusive(5), 1, 0)),
+        OpStatus::Nfs4Ok,
+    ),
+    (
+        Step::Ask(b'A', 1, What::Open(b"g", How::Exclusive(5), 1, 0)),
+        OpStatus::Nfs4Ok,
+    ),
+    (
+        Step::Ask(b'A', 1, What::Open(b"g", How::Exclusive(6), 1, 0)),
+        OpStatus::Exist,
+    ),
+    (
+        Step::Ask(b'A', 1, What::Open(b"g", How::Unchecked, 1, 0)),
+        OpStatus::Nfs4Ok,
+    ),
+];
 
 #[test]
 fn files_are_made_in_three_modes(rt: HostRuntime) -> Result<(), Fail> {
     let alloc = rt.alloc();
-    let rows = [
-        (open(b'A', b"f", How::Guarded, 1, 0), OpStatus::Nfs4Ok),
-        (open(b'A', b"f", How::Guarded, 1, 0), OpStatus::Exist),
-        (open(b'A', b"f", How::NoCreate, 1, 0), OpStatus::Nfs4Ok),
-        (open(b'A', b"f", How::Exclusive(5), 1, 0), OpStatus::Exist),
-        (open(b'A', b"g", How::Exclusive(5), 1, 0), OpStatus::Nfs4Ok),
-        (open(b'A', b"g", How::Exclusive(5), 1, 0), OpStatus::Nfs4Ok),
-        (open(b'A', b"g", How::Exclusive(6), 1, 0), OpStatus::Exist),
-        (open(b'A', b"g", How::Unchecked, 1, 0), OpStatus::Nfs4Ok),
-    ];
-    let steps = steps_of(alloc, &rows)?;
-    assert_eq!(rt; statuses(alloc, &steps)?, wanted(alloc, &rows)?);
+    assert_eq!(rt; first_other_of(alloc, &MAKINGS)?, None);
     Ok(())
 }
 
-#[test]
-fn a_size_is_set_where_a_file_is_made_or_cut(rt: HostRuntime) -> Result<(), Fail> {
-    let alloc = rt.alloc();
-    let steps = [
-        open(b'A', b"f", How::Sized(3), 3, 0),
-        // Another size than 0 does nothing to a file that is there.
-        open(b'A', b"f", How::Sized(2), 3, 0),
-        open(b'A', b"f", How::Sized(0), 3, 0),
-    ];
-    assert_eq!(rt;
-        last_value(alloc, steps.split_at(1).0)?,
-        opened(alloc, stateid(1, 1), (0, 1), &[16], 16)?
-    );
-    assert_eq!(rt;
-        last_value(alloc, steps.split_at(2).0)?,
-        opened(alloc, stateid(2, 1), (1, 1), &[], 16)?
-    );
-    assert_eq!(rt;
-        last_value(alloc, &steps)?,
-        opened(alloc, stateid(3, 1), (1, 2), &[16], 16)?
-    );
-    Ok(())
-}
+const FAULTS: [Row; 12] = [
+    (
+        Step::Ask(b'A', 1, What::Open(b"f", How::Unchecked, 1, 0)),
+        OpStatus::Nfs4Ok,
+    ),
+    (Step::Ask(b'A', 1, What::MakeDir(b"d")), OpStatus::Nfs4Ok),
+    // What is no directory, or one, comes before what is invalid.
+    (
+        Step::Ask(b'A', 16, What::Open(b"x", How::Unchecked, 1, 0)),
+        OpStatus::NotDir,
+    ),
+    (
+        Step::Ask(b'A', 18, What::Open(b"x", How::Unchecked, 1, 0)),
+        OpStatus::Stale,
+    ),
+    (
+        Step::Ask(b'A', 1, What::Open(b"d", How::NoCreate, 0, 0)),
+        OpStatus::IsDir,
+    ),
+    (
+        Step::Ask(b'A', 1, What::Open(b"x", How::NoCreate, 0, 0)),
+        OpStatus::Inval,
+    ),
+    (
+        Step::Ask(b'A', 1, What::Open(b"x", How::NoCreate, 4, 0)),
+        OpStatus::Inval,
+    ),
+    (
+        Step::Ask(b'A', 1, What::Open(b"x", How::NoCreate, 1, 4)),
+        OpStatus::Inval,
+    ),
+    (
+        Step::Ask(b'A', 1, What::Open(b"", How::Unchecked, 1, 0)),
+        OpStatus::Inval,
+    ),
+    (
+        Step::Ask(b'A', 1, What::Open(&[b'x'; 256], How::Unchecked, 1, 0)),
+        OpStatus::NameTooLong,
+    ),
+    (
+        Step::Ask(b'A', 1, What::Open(b"x/y", How::Unchecked, 1, 0)),
+        OpStatus::BadName,
+    ),
+    (
+        Step::Ask(b'A', 1, What::Open(&[b'x'; 255], How::NoCreate, 1, 0)),
+        OpStatus::NoEnt,
+    ),
+];
 
 #[test]
 fn what_is_wrong_with_an_open_comes_in_order(rt: HostRuntime) -> Result<(), Fail> {
     let alloc = rt.alloc();
-    let inside = What::Open {
-        name: b"x",
-        how: How::Unchecked,
-        access: 1,
-        deny: 0,
-    };
-    let rows = [
-        (open(b'A', b"f", How::Unchecked, 1, 0), OpStatus::Nfs4Ok),
-        (Step::Ask(b'A', 1, What::MakeDir(b"d")), OpStatus::Nfs4Ok),
-        // What is no directory, or one, comes before what is invalid.
-        (Step::Ask(b'A', 16, inside), OpStatus::NotDir),
-        (Step::Ask(b'A', 18, inside), OpStatus::Stale),
-        (open(b'A', b"d", How::NoCreate, 0, 0), OpStatus::IsDir),
-        (open(b'A', b"x", How::NoCreate, 0, 0), OpStatus::Inval),
-        (open(b'A', b"x", How::NoCreate, 4, 0), OpStatus::Inval),
-        (open(b'A', b"x", How::NoCreate, 1, 4), OpStatus::Inval),
-        (open(b'A', b"", How::Unchecked, 1, 0), OpStatus::Inval),
-        (
-            open(b'A', &[b'x'; 256], How::Unchecked, 1, 0),
-            OpStatus::NameTooLong,
-        ),
-        (open(b'A', b"x/y", How::Unchecked, 1, 0), OpStatus::BadName),
-        (
-            open(b'A', &[b'x'; 255], How::NoCreate, 1, 0),
-            OpStatus::NoEnt,
-        ),
-    ];
-    let steps = steps_of(alloc, &rows)?;
-    assert_eq!(rt; statuses(alloc, &steps)?, wanted(alloc, &rows)?);
+    assert_eq!(rt; first_other_of(alloc, &FAULTS)?, None);
     Ok(())
 }
 
@@ -268,42 +277,5 @@ fn holders_come_in_order_and_once(rt: HostRuntime) -> Result<(), Fail> {
     let (one, rows) = holders(alloc, &steps)?;
     assert_eq!(rt; one.as_slice(), [a].as_slice());
     assert_eq!(rt; rows, 1);
-    Ok(())
-}
-
-// The holders, listed in just the room for as many as there are rows.
-fn listed(alloc: Global, state: &FsState) -> Result<Vec<Instance>, Fail> {
-    Ok(state.list_holders(Vec::with_capacity(alloc, state.rows())?))
-}
-
-// The same OPEN by another run of the client.
-fn by_start(alloc: Global, verifier: u64) -> Result<Event, Fail> {
-    match event(alloc, open(b'A', b"f", How::Unchecked, 1, 0))? {
-        Event::Asked(call, verdict) => Ok(Event::Asked(
-            Call {
-                caller: Some(start_of(b'A', verifier)?),
-                file: call.file,
-                deed: call.deed,
-            },
-            verdict,
-        )),
-        ended => Ok(ended),
-    }
-}
-
-// The holders where a late run opened a file, and then an early one.
-fn two_runs(alloc: Global) -> Result<Vec<Instance>, Fail> {
-    let (late, early) = (by_start(alloc, 2)?, by_start(alloc, 1)?);
-    let mut state = no_files(alloc)?;
-    state.apply(&late)?;
-    state.apply(&early)?;
-    listed(alloc, &state)
-}
-
-#[test]
-fn holders_are_listed_in_room_that_is_there(rt: HostRuntime) -> Result<(), Fail> {
-    let alloc = rt.alloc();
-    let (early, late) = (start_of(b'A', 1)?, start_of(b'A', 2)?);
-    assert_eq!(rt; two_runs(alloc)?.as_slice(), [early, late].as_slice());
     Ok(())
 }
