@@ -370,7 +370,7 @@ fn client(id: &[u8]) -> Result<Instance, Fail> {
 }
 
 // An OPEN of the file `f` for reading, which makes it.
-fn open(alloc: Global, caller: Instance) -> Result<Call, Fail> {
+fn open(alloc: Global, caller: Instance) -> Result<Call, Memory> {
     let args = OpenArgs {
         seqid: 1,
         access: 1,
@@ -435,14 +435,24 @@ fn calls_are_made_until_the_freeze(rt: HostRuntime) -> Result<(), Fail> {
     Ok(())
 }
 
+// Opens `f` for a client.
+fn open_by(
+    alloc: Global,
+    slot: &mut Slot,
+    pass: &FsPass,
+    caller: Instance,
+) -> Result<Called, Memory> {
+    let asked = open(alloc, caller)?;
+    call(slot, pass, &asked)
+}
+
 // A slot that is frozen for its move 1, in which B and then A have a file open.
 fn opened_and_frozen(rt: &impl Abort, alloc: Global) -> Result<Slot, Fail> {
     let (here, dest, pass) = (server(0)?, server(1)?, pass(0)?);
-    let first = open(alloc, client(b"B")?)?;
-    let second = open(alloc, client(b"A")?)?;
+    let (a, b) = (client(b"A")?, client(b"B")?);
     let mut slot = slot_in(rt, alloc, Made::Serving)?;
-    assert_eq!(rt; call(&mut slot, &pass, &first), done(1));
-    assert_eq!(rt; call(&mut slot, &pass, &second), done(2));
+    assert_eq!(rt; open_by(alloc, &mut slot, &pass, b), done(1));
+    assert_eq!(rt; open_by(alloc, &mut slot, &pass, a), done(2));
     assert_eq!(rt; slot.begin(here, dest), Begin::Begun(MoveNum::new(1)));
     assert_eq!(rt; slot.freeze(), Freeze::Frozen(MoveNum::new(1)));
     Ok(slot)
