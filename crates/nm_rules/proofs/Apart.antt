@@ -8,7 +8,7 @@ use Rattle.std.specs.Prelude.{◌==◌, ◌&&◌, ◌||◌, not, find, filter, n
 use Rattle.std.specs.List.{list_all, list_any}
 use Rattle.std.proofs.lemmas.Bool.Decides.{nat_tests}
 use Rattle.nm_rules.specs.Owners.{same_owner}
-use Rattle.nm_rules.specs.Shares.{meets, shares_conflict, opposes, is_opposed, is_open_of, open_of, opened_row, put_open}
+use Rattle.nm_rules.specs.Shares.{meets, shares_conflict, opposes, is_opposed, is_open_of, open_of, opened_row, renewed_row, narrowed_row, put_open}
 use Rattle.nm_rules.specs.Sound.{rises, are_apart, all_apart}
 use Rattle.nm_rules.specs.declared.calls.Owner.{Owner}
 use Rattle.nm_rules.specs.declared.rows.OpenRow.{OpenRow}
@@ -105,7 +105,7 @@ all_apart-put above last row (y ∷ ys) rising all suits =
         later
 
 -- where the owner has no open of the file, no row is one
-open_of-none : (owner : Owner) (file : ℕ) (rows : List OpenRow) (x : OpenRow) → open_of owner file rows ≡ None → IsIn x rows → is_open_of owner file x ≡ false
+pub open_of-none : (owner : Owner) (file : ℕ) (rows : List OpenRow) (x : OpenRow) → open_of owner file rows ≡ None → IsIn x rows → is_open_of owner file x ≡ false
 unfolding open_of
 open_of-none owner file [] x none absent = absurd absent
 open_of-none owner file (y ∷ ys) x none within = by_head (is_open_of owner file y) refl none within (open_of-none owner file ys x)
@@ -203,3 +203,38 @@ opened_suits owner file counter access deny rows all free = by_open (open_of own
         (apart_in rows row x all its.0 within (λ e. ne (sym e)))
         unopposed
         (λ old new. joined_apart row.access row.deny access deny x.access x.deny old new)
+
+-- ---- a live open that keeps its owner and file, with no more of a share
+
+-- all that a part has the whole has too, so what the whole doesn't meet the part doesn't
+part_meets : (part whole deny : ℕ) → (bit_or part whole == whole) ≡ true → meets whole deny ≡ false → meets part deny ≡ false
+part_meets part whole deny within apart =
+    apart_meets _ (sym (and_or_apart deny part whole (meets_apart _ apart))
+    ∙ ap (λ n. bit_and n deny) (eqb-true (bit_or part whole) whole within)
+    ∙ meets_apart _ apart)
+
+meets_part : (part whole access : ℕ) → (bit_or part whole == whole) ≡ true → meets access whole ≡ false → meets access part ≡ false
+meets_part part whole access within apart =
+    ap (λ n. not (n == 0)) (and_comm access part)
+    ∙ part_meets part whole access within (ap (λ n. not (n == 0)) (and_comm whole access) ∙ apart)
+
+pub renewed_suits : (row : OpenRow) (rows : List OpenRow) → all_apart rows ≡ true → IsIn row rows → Suits (renewed_row row) rows
+renewed_suits row rows all at x within ne = apart_in rows row x all at within (λ e. ne (sym e))
+
+less_apart : (f o whole part : Bool) → cond f (not o && not whole) true ≡ true → (whole ≡ false → part ≡ false) → cond f (not o && not part) true ≡ true
+less_apart false o whole part apart less = refl
+less_apart true true whole part apart less = absurd (false≢true apart)
+less_apart true false true part apart less = absurd (false≢true apart)
+less_apart true false false part apart less = rw (less refl) refl
+
+pub narrowed_suits : (row : OpenRow) (access deny : ℕ) (rows : List OpenRow) → all_apart rows ≡ true → IsIn row rows
+    → (bit_or access row.access == row.access) ≡ true → (bit_or deny row.deny == row.deny) ≡ true → Suits (narrowed_row access deny row) rows
+narrowed_suits row access deny rows all at less_access less_deny x within ne =
+    less_apart (row.file == x.file) (same_owner row.owner x.owner)
+    (shares_conflict row.access row.deny x.access x.deny) (shares_conflict access deny x.access x.deny)
+    (apart_in rows row x all at within (λ e. ne (sym e)))
+    (λ apart.
+        let parts = or_parts (meets row.access x.deny) (meets x.access row.deny) apart in
+        neither (meets access x.deny) (meets x.access deny)
+        (part_meets access row.access x.deny less_access parts.0)
+        (meets_part deny row.deny x.access less_deny parts.1))

@@ -58,13 +58,13 @@ all_free c none =
       limit = ten.1;
     }
 
--- where the seqid says nothing, no kept reply is given
-pub repeats_never : (c : Checks) (kept : Reply) → c.seqid ≡ None → first c ≡ Some (Repeat kept) → ⊥
-repeats_never c kept none repeats = by_classes c.unresolved c.seqid (behind_seqid c) none repeats
+-- where a kept reply is given, it is the seqid that says so
+pub first_repeats : (c : Checks) (kept : Reply) → first c ≡ Some (Repeat kept) → (c.unresolved ≡ None) × (c.seqid ≡ Some (Repeat kept))
+first_repeats c kept repeats = by_classes c.unresolved c.seqid (behind_seqid c) repeats
   where
-    by_classes : (unresolved : Option OpStatus) (seqid : Option Stop) (more : Option OpStatus) → seqid ≡ None
-        → option_or (refusal unresolved) (option_or seqid (refusal more)) ≡ Some (Repeat kept) → ⊥
-    by_classes (Some status) seqid more none h = cc
-    by_classes None (Some stop) more none h = cc
-    by_classes None None (Some status) none h = cc
-    by_classes None None None none h = cc
+    by_classes : (unresolved : Option OpStatus) (seqid : Option Stop) (more : Option OpStatus)
+        → option_or (refusal unresolved) (option_or seqid (refusal more)) ≡ Some (Repeat kept) → (unresolved ≡ None) × (seqid ≡ Some (Repeat kept))
+    by_classes (Some status) seqid more h = cc
+    by_classes None (Some stop) more h = (refl, h)
+    by_classes None None (Some status) h = cc
+    by_classes None None None h = cc

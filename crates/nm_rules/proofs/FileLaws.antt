@@ -15,7 +15,8 @@ use Rattle.nm_rules.specs.Contents.FileEdit.{Wrote, Set}
 use Rattle.nm_rules.specs.Data.{write_value}
 use Rattle.nm_rules.specs.Files.{create_value}
 use Rattle.nm_rules.specs.Opens.{open_checks, open_value, target}
-use Rattle.nm_rules.specs.Past.{Past, Now, words, is_done, deed_words, close_words, open_tree, claimed_in, claimed_name, opentype_asks, cuts, parent_of, set_tree, write_tree}
+use Rattle.nm_rules.specs.Seqids.{is_fresh}
+use Rattle.nm_rules.specs.Past.{Past, Now, acts, words, no_words, is_done, deed_words, judgement, close_words, confirm_words, downgrade_words, open_tree, claimed_in, claimed_name, opentype_asks, cuts, parent_of, set_tree, write_tree}
 use Rattle.nm_rules.specs.Seen.{Seen, seen, look, after, after_words}
 use Rattle.nm_rules.specs.Answer.{answer_to, reply_by, reply_with, refused_value, ok_value, checks, IsLegal}
 use Rattle.nm_rules.specs.FileReadings.{FileChange, open_change, deed_change, change_of, byte_after, size_after, mode_after, name_after, dir_after, byte_of, size_of, mode_of, name_of, dir_of, IsRead}
@@ -29,13 +30,14 @@ use Rattle.nm_rules.specs.declared.calls.Deed.{Deed}
 use Rattle.nm_rules.specs.declared.calls.Deed.TheVariants as deed
 use Rattle.nm_rules.specs.declared.calls.Event.{Event}
 use Rattle.nm_rules.specs.declared.calls.Event.TheVariants.{Asked, Ended}
+use Rattle.nm_rules.specs.declared.calls.Reply.{Reply}
 use Rattle.nm_rules.specs.declared.calls.ReplyValue.TheVariants as told
 use Rattle.nm_rules.specs.declared.calls.StateId.{StateId}
 use Rattle.nm_rules.specs.declared.calls.Verdict.{Verdict}
 use Rattle.nm_rules.specs.declared.rows.FileRow.{FileRow}
 use Rattle.nm_rules.specs.declared.status.OpStatus.{OpStatus}
 use Rattle.nm_rules.proofs.FileRows.{file_at-past}
-use Rattle.nm_rules.proofs.Legal.{never_repeats, words-refused, sound-seen, look-seen, claimed_is_target}
+use Rattle.nm_rules.proofs.Legal.{free_is_fresh, repeat_is_old, words-refused, words-old, words-free, sound-seen, look-seen, claimed_is_target}
 use Rattle.nm_rules.proofs.Looks.{file_by-after}
 
 -- ---- bytes
@@ -260,26 +262,28 @@ either_leaves false = refl
 refused_leaves : (n : Now) (k : ℕ) (call : Call) (verdict : Verdict) (status : OpStatus)
     → change_of n k (Asked call verdict) (reply_with status (refused_value call.deed)) ≡ Leaves
 unfolding is_empty
-refused_leaves n k call verdict status = by_deed call.deed
+refused_leaves n k call verdict status = by_deed (acts n call (reply_with status (refused_value call.deed))) call.deed
   where
-    by_deed : (d : Deed) → cond (is_done status) (deed_change n k call.file d (refused_value d)) Leaves ≡ Leaves
-    by_deed (deed.Access _) = either_leaves (is_done status)
-    by_deed (deed.Close _) = either_leaves (is_done status)
-    by_deed (deed.Commit _) = either_leaves (is_done status)
-    by_deed (deed.Create _) = either_leaves (is_done status)
-    by_deed (deed.GetAttr _) = either_leaves (is_done status)
-    by_deed (deed.Lookup _) = either_leaves (is_done status)
-    by_deed deed.LookupP = either_leaves (is_done status)
-    by_deed (deed.Open _) = either_leaves (is_done status)
-    by_deed (deed.Read _) = either_leaves (is_done status)
-    by_deed (deed.ReadDir _) = either_leaves (is_done status)
-    by_deed (deed.Remove _) = either_leaves (is_done status)
-    by_deed (deed.SetAttr args) = ap (λ c. cond (is_done status) c Leaves) (nothing_set (call.file == k)) ∙ either_leaves (is_done status)
+    by_deed : (b : Bool) (d : Deed) → cond b (deed_change n k call.file d (refused_value d)) Leaves ≡ Leaves
+    by_deed b (deed.Access _) = either_leaves b
+    by_deed b (deed.Close _) = either_leaves b
+    by_deed b (deed.Commit _) = either_leaves b
+    by_deed b (deed.Create _) = either_leaves b
+    by_deed b (deed.GetAttr _) = either_leaves b
+    by_deed b (deed.Lookup _) = either_leaves b
+    by_deed b deed.LookupP = either_leaves b
+    by_deed b (deed.Open _) = either_leaves b
+    by_deed b (deed.OpenConfirm _) = either_leaves b
+    by_deed b (deed.OpenDowngrade _) = either_leaves b
+    by_deed b (deed.Read _) = either_leaves b
+    by_deed b (deed.ReadDir _) = either_leaves b
+    by_deed b (deed.Remove _) = either_leaves b
+    by_deed b (deed.SetAttr args) = ap (λ c. cond b c Leaves) (nothing_set (call.file == k)) ∙ either_leaves b
       where
-        nothing_set : (b : Bool) → cond (b && false) (Sets (asked_size (asks_of args.attributes)) (asked_mode (asks_of args.attributes))) Leaves ≡ Leaves
+        nothing_set : (c : Bool) → cond (c && false) (Sets (asked_size (asks_of args.attributes)) (asked_mode (asks_of args.attributes))) Leaves ≡ Leaves
         nothing_set true = refl
         nothing_set false = refl
-    by_deed (deed.Write _) = either_leaves (is_done status)
+    by_deed b (deed.Write _) = either_leaves b
 
 open_says : (row : Option FileRow) (dir k number : ℕ) (args : OpenArgs) (o : Option ℕ)
     → cond (number == k) (open_change dir args o) Leaves ≡ change_by (open_tree row dir (claimed_name args.claim) args.opentype o number) k
@@ -346,6 +350,16 @@ goes_says s k caller file verdict deed.LookupP goes = refl
 goes_says s k None file verdict (deed.Open args) goes = cc
 goes_says s k (Some party) file verdict (deed.Open args) goes =
     open_says _ file k _ args (claimed_in (look s).child_by file (claimed_name args.claim))
+goes_says s k caller file verdict (deed.OpenConfirm _) goes = confirmed_leaves _
+  where
+    confirmed_leaves : (o : Option StateId) → Leaves ≡ change_by (confirm_words (look s) (told.OpenConfirm o)).tree k
+    confirmed_leaves None = refl
+    confirmed_leaves (Some id) = refl
+goes_says s k caller file verdict (deed.OpenDowngrade args) goes = narrowed_leaves _
+  where
+    narrowed_leaves : (o : Option StateId) → Leaves ≡ change_by (downgrade_words (look s) args (told.OpenDowngrade o)).tree k
+    narrowed_leaves None = refl
+    narrowed_leaves (Some id) = refl
 goes_says s k caller file verdict (deed.Read _) goes = refl
 goes_says s k caller file verdict (deed.ReadDir _) goes = refl
 goes_says s k caller file verdict (deed.Remove args) goes = refl
@@ -399,6 +413,16 @@ goes_fresh s k caller file verdict deed.LookupP sound goes = tt
 goes_fresh s k None file verdict (deed.Open args) sound goes = cc
 goes_fresh s k (Some party) file verdict (deed.Open args) sound goes =
     rw (claimed_is_target s.tree.table file (claimed_name args.claim)) (open_fresh s k _ file (claimed_name args.claim) args.opentype (target s file args) sound)
+goes_fresh s k caller file verdict (deed.OpenConfirm _) sound goes = confirmed_fresh _
+  where
+    confirmed_fresh : (o : Option StateId) → BeginsFresh (confirm_words (look s) (told.OpenConfirm o)).tree k (file_at k s.tree.table)
+    confirmed_fresh None = tt
+    confirmed_fresh (Some id) = tt
+goes_fresh s k caller file verdict (deed.OpenDowngrade args) sound goes = narrowed_fresh _
+  where
+    narrowed_fresh : (o : Option StateId) → BeginsFresh (downgrade_words (look s) args (told.OpenDowngrade o)).tree k (file_at k s.tree.table)
+    narrowed_fresh None = tt
+    narrowed_fresh (Some id) = tt
 goes_fresh s k caller file verdict (deed.Read _) sound goes = tt
 goes_fresh s k caller file verdict (deed.ReadDir _) sound goes = tt
 goes_fresh s k caller file verdict (deed.Remove args) sound goes = tt
@@ -407,29 +431,44 @@ goes_fresh s k caller file verdict (deed.Write args) sound goes = write_fresh _ 
 
 -- ---- the laws
 
+old_leaves : (n : Now) (k : ℕ) (call : Call) (verdict : Verdict) (r : Reply) → is_fresh (judgement n call) ≡ false → change_of n k (Asked call verdict) r ≡ Leaves
+old_leaves n k call verdict r old = rw old refl
+
+-- a call that nothing stops acts
+free_acts : (s : Seen) (k : ℕ) (call : Call) (verdict : Verdict) → first (checks s call.caller call.file verdict call.deed) ≡ None
+    → change_of (look s) k (Asked call verdict) (reply_by s call None) ≡ deed_change (look s) k call.file call.deed (ok_value s call.caller call.file call.deed)
+unfolding is_done
+free_acts s k call verdict goes = rw (free_is_fresh s call verdict goes) refl
+
 -- what an entry says, and what its word does to the file
 entry_says : (s : Seen) (k : ℕ) (event : Event) → change_of (look s) k event (answer_to s event) ≡ change_by (words (look s) event (answer_to s event)).tree k
-unfolding answer_to words is_done
+unfolding answer_to words
 entry_says s k (Ended party) = refl
 entry_says s k (Asked call verdict) = by_stop (first (checks s call.caller call.file verdict call.deed)) refl
   where
     by_stop : (x : Option Stop) → first (checks s call.caller call.file verdict call.deed) ≡ x
         → change_of (look s) k (Asked call verdict) (reply_by s call x) ≡ change_by (words (look s) (Asked call verdict) (reply_by s call x)).tree k
     by_stop (Some (Refuse status)) refused = refused_leaves (look s) k call verdict status ∙ ap (λ w. change_by w.tree k) (sym (words-refused (look s) call verdict status))
-    by_stop (Some (Repeat kept)) repeats = absurd (never_repeats s call.caller call.file verdict call.deed kept repeats)
-    by_stop None goes = goes_says s k call.caller call.file verdict call.deed goes
+    by_stop (Some (Repeat kept)) repeats =
+        let old = repeat_is_old s call verdict kept repeats in
+        old_leaves (look s) k call verdict kept old ∙ ap (λ w. change_by w.tree k) (sym (words-old (look s) call verdict kept old))
+    by_stop None goes = free_acts s k call verdict goes
+        ∙ goes_says s k call.caller call.file verdict call.deed goes
+        ∙ ap (λ w. change_by w.tree k) (sym (words-free s call verdict goes))
 
 -- what is made is new
 entry_fresh : (s : Seen) (k : ℕ) (event : Event) → IsSound s → BeginsFresh (words (look s) event (answer_to s event)).tree k (file_at k s.tree.table)
-unfolding answer_to words is_done
+unfolding answer_to words
 entry_fresh s k (Ended party) sound = tt
 entry_fresh s k (Asked call verdict) sound = by_stop (first (checks s call.caller call.file verdict call.deed)) refl
   where
     by_stop : (x : Option Stop) → first (checks s call.caller call.file verdict call.deed) ≡ x
         → BeginsFresh (words (look s) (Asked call verdict) (reply_by s call x)).tree k (file_at k s.tree.table)
-    by_stop (Some (Refuse status)) refused = rw (words-refused (look s) call verdict status) tt
-    by_stop (Some (Repeat kept)) repeats = absurd (never_repeats s call.caller call.file verdict call.deed kept repeats)
-    by_stop None goes = goes_fresh s k call.caller call.file verdict call.deed sound goes
+    by_stop (Some (Refuse status)) refused = subst (λ w. BeginsFresh w.tree k (file_at k s.tree.table)) (sym (words-refused (look s) call verdict status)) tt
+    by_stop (Some (Repeat kept)) repeats =
+        subst (λ w. BeginsFresh w.tree k (file_at k s.tree.table)) (sym (words-old (look s) call verdict kept (repeat_is_old s call verdict kept repeats))) tt
+    by_stop None goes = subst (λ w. BeginsFresh w.tree k (file_at k s.tree.table)) (sym (words-free s call verdict goes))
+        (goes_fresh s k call.caller call.file verdict call.deed sound goes)
 
 read_of : Past → ℕ → Read
 read_of es k = record { byte = byte_of es k; size = size_of es k; mode = mode_of es k; name = name_of es k; dir = dir_of es k }

@@ -13,13 +13,17 @@ use Rattle.std.specs.declared.cmp.Ordering.{Ordering}
 use Rattle.std.specs.declared.cmp.Ordering.TheVariants.{Less, Equal, Greater}
 use Rattle.std.proofs.lemmas.Map.Lookups.{exact_bytes, exact_unsigned}
 use Rattle.nm_rules.specs.Parties.{Party, same_party, party_cmp}
-use Rattle.nm_rules.specs.Holders.{put_by, put_party, holders_of, rises_after, parties_rise, is_among}
+use Rattle.nm_rules.specs.Holders.{put_by, put_party, gathered, holders, has_row, opener_of, known_of, is_opener_of, is_owner_of, rises_after, parties_rise, is_among}
+use Rattle.nm_rules.specs.Owners.{same_owner}
+use Rattle.nm_rules.specs.Seqids.{OwnerWord, put_owner, owners_after}
+use Rattle.nm_rules.specs.Seqids.OwnerWord.{Stays, Noted, GoneOf}
 use Rattle.nm_rules.specs.Shares.{OpenWord, put_open, opens_after}
 use Rattle.nm_rules.specs.Shares.OpenWord.{Keep, Put, Drop, DropOf}
 use Rattle.nm_rules.specs.Past.{words}
 use Rattle.nm_rules.specs.Seen.{Seen, look, after, after_words}
 use Rattle.nm_rules.specs.declared.calls.Event.{Event}
 use Rattle.nm_rules.specs.declared.calls.Reply.{Reply}
+use Rattle.nm_rules.specs.declared.owners.OwnerRow.{OwnerRow}
 use Rattle.nm_rules.specs.declared.rows.OpenRow.{OpenRow}
 
 pub party_cmp-total : IsTotalOrder party_cmp
@@ -70,12 +74,29 @@ among-put p party (x ∷ xs) = by_place (party_cmp x party) refl (among-put p pa
         or_twice (same_party p x) (is_among p xs) ∙ ap (λ q. same_party p q || (same_party p x || is_among p xs)) (party_cmp-is x party place)
     by_place Greater place later = refl
 
--- a party is a holder just where some row is its own
-pub among-holders : (p : Party) (rows : List OpenRow) → is_among p (holders_of rows) ≡ list_any (λ (row : OpenRow). same_party p row.owner.instance) rows
-unfolding holders_of
-among-holders p [] = refl
-among-holders p (row ∷ rows) =
-    among-put p row.owner.instance (holders_of rows) ∙ ap (λ b. same_party p row.owner.instance || b) (among-holders p rows)
+or_more : (a b c : Bool) → (a || (b || c)) ≡ ((a || b) || c)
+or_more true b c = refl
+or_more false b c = refl
+
+-- a party is among those of the rows where one of these is its own, or it was there
+pub among-gathered : {A : Type 0} (of : A → Party) (p : Party) (rows : List A) (more : List Party)
+    → is_among p (gathered of rows more) ≡ (list_any (λ row. same_party p (of row)) rows || is_among p more)
+unfolding gathered
+among-gathered of p [] more = refl
+among-gathered of p (row ∷ rows) more =
+    among-put p (of row) (gathered of rows more)
+    ∙ ap (λ b. same_party p (of row) || b) (among-gathered of p rows more)
+    ∙ or_more (same_party p (of row)) (list_any (λ row. same_party p (of row)) rows) (is_among p more)
+
+or_nothing : (a : Bool) → (a || false) ≡ a
+or_nothing true = refl
+or_nothing false = refl
+
+pub among-holders : (p : Party) (s : Seen) → is_among p (holders s) ≡ has_row p s
+among-holders p s =
+    among-gathered opener_of p s.opens (gathered known_of s.owners [])
+    ∙ ap (λ b. list_any (is_opener_of p) s.opens || b)
+    (among-gathered known_of p s.owners [] ∙ or_nothing (list_any (is_owner_of p) s.owners))
 
 both : (a b : Bool) → a ≡ true → b ≡ true → (a && b) ≡ true
 both a b x y = rw (x, y) refl
@@ -108,11 +129,14 @@ parties_rise-put party (x ∷ xs) rises = by_place (party_cmp x party) refl
     by_place Equal place = rises
     by_place Greater place = both _ _ (ap is_lt (party_cmp-back x party place)) rises
 
--- so holders rise
-pub parties_rise-holders : (rows : List OpenRow) → parties_rise (holders_of rows) ≡ true
-unfolding holders_of
-parties_rise-holders [] = refl
-parties_rise-holders (row ∷ rows) = parties_rise-put row.owner.instance (holders_of rows) (parties_rise-holders rows)
+-- so do those that are gathered
+pub parties_rise-gathered : {A : Type 0} (of : A → Party) (rows : List A) (more : List Party) → parties_rise more ≡ true → parties_rise (gathered of rows more) ≡ true
+unfolding gathered
+parties_rise-gathered of [] more rises = rises
+parties_rise-gathered of (row ∷ rows) more rises = parties_rise-put (of row) (gathered of rows more) (parties_rise-gathered of rows more rises)
+
+pub parties_rise-holders : (s : Seen) → parties_rise (holders s) ≡ true
+parties_rise-holders s = parties_rise-gathered opener_of s.opens _ (parties_rise-gathered known_of s.owners [] refl)
 
 -- a put adds one party or none
 pub length-put : (party : Party) (xs : List Party) → (length xs ≤ length (put_party party xs)) × (length (put_party party xs) ≤ length xs + 1)
@@ -125,11 +149,14 @@ length-put party (x ∷ xs) = by_place (party_cmp x party) (length-put party xs)
     by_place Equal later = (omega arith, omega arith)
     by_place Greater later = (omega arith, omega arith)
 
--- there are no more holders than rows
-pub holders_fit : (rows : List OpenRow) → length (holders_of rows) ≤ length rows
-unfolding holders_of
-holders_fit [] = omega arith
-holders_fit (row ∷ rows) = omega (arith, (length-put row.owner.instance (holders_of rows)).1, holders_fit rows)
+-- there are no more than rows, beside those that were there
+pub gathered_fit : {A : Type 0} (of : A → Party) (rows : List A) (more : List Party) → length (gathered of rows more) ≤ length rows + length more
+unfolding gathered
+gathered_fit of [] more = omega arith
+gathered_fit of (row ∷ rows) more = omega (arith, (length-put (of row) (gathered of rows more)).1, gathered_fit of rows more)
+
+pub holders_fit : (s : Seen) → length (holders s) ≤ length s.opens + length s.owners
+holders_fit s = omega (arith, gathered_fit opener_of s.opens (gathered known_of s.owners []), gathered_fit known_of s.owners [])
 
 -- ---- Where a binary search puts a party
 
@@ -218,7 +245,31 @@ opens_grow (Put row) rows = length-put_open row rows
 opens_grow (Drop counter) rows = omega (arith, length-filter-le (λ (x : OpenRow). not (x.counter == counter)) rows)
 opens_grow (DropOf party) rows = omega (arith, length-filter-le (λ (x : OpenRow). not (same_party party x.owner.instance)) rows)
 
--- an event adds at most one row
-pub rows_grow : (s : Seen) (event : Event) (reply : Reply) → length (after s event reply).opens ≤ length s.opens + 1
+length-put_owner : (row : OwnerRow) (rows : List OwnerRow) → length (put_owner row rows) ≤ length rows + 1
+length-put_owner row [] = omega arith
+length-put_owner row (x ∷ xs) = by_head (same_owner row.owner x.owner) (length-put_owner row xs)
+  where
+    by_head : (b : Bool) → length (put_owner row xs) ≤ length xs + 1 → length (cond b (row ∷ xs) (x ∷ put_owner row xs)) ≤ length (x ∷ xs) + 1
+    by_head true later = omega arith
+    by_head false later = omega (arith, later)
+
+length-filter-owners : (p : OwnerRow → Bool) (rows : List OwnerRow) → length (filter p rows) ≤ length rows
+length-filter-owners p [] = omega arith
+length-filter-owners p (x ∷ xs) = by_head (p x) (length-filter-owners p xs)
+  where
+    by_head : (b : Bool) → length (filter p xs) ≤ length xs → length (cond b (x ∷ filter p xs) (filter p xs)) ≤ length (x ∷ xs)
+    by_head true later = omega (arith, later)
+    by_head false later = omega (arith, later)
+
+owners_grow : (word : OwnerWord) (rows : List OwnerRow) → length (owners_after word rows) ≤ length rows + 1
+unfolding owners_after
+owners_grow Stays rows = omega arith
+owners_grow (Noted row closed) rows = length-put_owner row rows
+owners_grow (GoneOf party) rows = omega (arith, length-filter-owners (λ (x : OwnerRow). not (same_party party x.owner.instance)) rows)
+
+-- an event adds at most one open and one owner
+pub rows_grow : (s : Seen) (event : Event) (reply : Reply)
+    → length (after s event reply).opens + length (after s event reply).owners ≤ length s.opens + length s.owners + 2
 unfolding after_words
-rows_grow s event reply = opens_grow (words (look s) event reply).opens s.opens
+rows_grow s event reply =
+    omega (arith, opens_grow (words (look s) event reply).opens s.opens, owners_grow (words (look s) event reply).owners s.owners)

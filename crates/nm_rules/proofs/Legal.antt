@@ -1,6 +1,7 @@
 -- The tables of every legal list are sound, and show what stands.
 use Rattle.std.proofs.Common.{◌≡◌, ℕ, ◌+◌, Bool, true, false, cond, List, [], ◌∷◌, Option, Some, None, refl, ap, sym, subst, ◌∙◌, arith}
 use Rattle.std.specs.Prelude.{map, is_none, not, ◌==◌, ◌||◌, ◌&&◌, filter, find, option_map, unwrap_or}
+use Rattle.std.specs.Option.{option_or}
 use Rattle.std.specs.Str.{bytes_eq}
 use mathlib.Core.Path.{fun_ext}
 use Rattle.std.proofs.lemmas.Bool.{not-false, true≢false}
@@ -10,20 +11,24 @@ use Rattle.nm_rules.specs.Attributes.{Asks, asks_of, asked_size, asked_mode, has
 use Rattle.nm_rules.specs.Contents.{TreeNow, TreeWord, FileEdit, root_row, taken, file_at, child_at, is_named, stamped, edited_at, tree_after}
 use Rattle.nm_rules.specs.Contents.TreeWord.{Untouched, Made, Edited, Removed}
 use Rattle.nm_rules.specs.Contents.FileEdit.{Wrote, Set}
-use Rattle.nm_rules.specs.Shares.{open_at, open_of, opened_row, is_opposed, put_open, opens_after, OpenWord}
-use Rattle.nm_rules.specs.Shares.OpenWord.{Drop, DropOf}
-use Rattle.nm_rules.specs.Past.{Past, Now, now, left, words, no_words, is_done, deed_words, nothing_yet, open_words, close_words, opener, open_tree, claimed_in, claimed_name, cuts, parent_of, set_tree, write_tree}
+use Rattle.nm_rules.specs.Seqids.{OwnerWord, owner_at, judged, is_fresh, seqid_of}
+use Rattle.nm_rules.specs.Seqids.OwnerWord.{Stays}
+use Rattle.nm_rules.specs.Shares.{open_at, open_of, opened_row, is_opposed, put_open, put_if, renewed_row, narrowed_row, opens_after, OpenWord}
+use Rattle.nm_rules.specs.Shares.OpenWord.{Put, Drop, DropOf}
+use Rattle.nm_rules.specs.Past.{Past, Now, Words, now, left, acts, words, no_words, is_done, deed_words, judgement, judgement_for, named_by, seqid_owner, noted, owner_word, with_owners, nothing_yet, open_words, close_words, confirm_words, downgrade_words, opener, open_tree, claimed_in, claimed_name, cuts, parent_of, set_tree, write_tree}
 use Rattle.nm_rules.specs.Seen.{Seen, empty, seen, look, after, after_words}
 use Rattle.nm_rules.specs.Checks.{Stop, first, arguments_fault}
 use Rattle.nm_rules.specs.Checks.Stop.{Refuse, Repeat}
 use Rattle.nm_rules.specs.Data.{read_checks, write_checks, write_value, setattr_checks, size_checks, mode_checks, commit_checks}
 use Rattle.nm_rules.specs.Files.{file_checks, dir_checks, lookup_checks, create_checks, create_value, remove_checks, readdir_checks}
-use Rattle.nm_rules.specs.Opens.{open_checks, GoesOpen, open_value, close_checks, close_checks_at, close_value, closed_stateid, open_named, row_to_open, file_to_open, target, target_at, claim_arguments, open_fault, claim_fault, is_share, open_limit, tree_limit}
+use Rattle.nm_rules.specs.Opens.{open_checks, GoesOpen, open_value, close_checks, confirm_checks, downgrade_checks, changed_stateid, next_stateid, is_narrower, row_to_open, file_to_open, target, target_at, claim_arguments, open_fault, claim_fault, is_share, open_limit, tree_limit}
+use Rattle.nm_rules.specs.Stateids.{open_named, resolved, is_own, unresolved_at, owner_stop, owner_stop_at, judged_stop}
 use Rattle.nm_rules.specs.Answer.{answer_to, reply_by, reply_with, refused_value, ok_value, checks, IsLegal}
 use Rattle.nm_rules.specs.Sound.{IsSound, rises, all_apart, files_rise}
 use Rattle.nm_rules.specs.declared.args.OpenArgs.{OpenArgs}
 use Rattle.nm_rules.specs.declared.args.OpenType.{OpenType}
 use Rattle.nm_rules.specs.declared.args.CloseArgs.{CloseArgs}
+use Rattle.nm_rules.specs.declared.args.OpenDowngradeArgs.{OpenDowngradeArgs}
 use Rattle.nm_rules.specs.declared.args.SetAttrArgs.{SetAttrArgs}
 use Rattle.nm_rules.specs.declared.args.WriteArgs.{WriteArgs}
 use Rattle.nm_rules.specs.declared.calls.Call.{Call}
@@ -34,15 +39,20 @@ use Rattle.nm_rules.specs.declared.calls.Verdict.{Verdict}
 use Rattle.nm_rules.specs.declared.calls.Event.{Event}
 use Rattle.nm_rules.specs.declared.calls.Event.TheVariants.{Asked, Ended}
 use Rattle.nm_rules.specs.declared.calls.Reply.{Reply}
+use Rattle.nm_rules.specs.declared.calls.StateRef.{StateRef}
+use Rattle.nm_rules.specs.declared.calls.StateRef.TheVariants.{Zeros, Ones, Named}
+use Rattle.nm_rules.specs.declared.owners.Judgement.{Judgement}
+use Rattle.nm_rules.specs.declared.owners.Judgement.TheVariants as judged_as
+use Rattle.nm_rules.specs.declared.owners.OwnerRow.{OwnerRow}
 use Rattle.nm_rules.specs.declared.calls.ReplyValue.TheVariants as told
 use Rattle.nm_rules.specs.declared.rows.FileRow.{FileRow}
 use Rattle.nm_rules.specs.declared.rows.OpenRow.{OpenRow}
 use Rattle.nm_rules.specs.declared.status.OpStatus.{OpStatus}
-use Rattle.nm_rules.specs.declared.status.OpStatus.TheVariants.{Nfs4Ok, ShareDenied, Resource}
-use Rattle.nm_rules.proofs.Classes.{or_none, refuse_if-none, IsFree, all_free, repeats_never}
+use Rattle.nm_rules.specs.declared.status.OpStatus.TheVariants.{Nfs4Ok, ShareDenied, Resource, BadStateId, Inval}
+use Rattle.nm_rules.proofs.Classes.{or_none, refuse_if-none, IsFree, all_free, first_repeats}
 use Rattle.nm_rules.proofs.FileRows.{stamped_keeps, edited_keeps, files_rise-map, files_rise-filter, files_rise-push}
-use Rattle.nm_rules.proofs.OpenRows.{open_at-past, in-open_at, rises-filter, rises-put_new, rises-put_old}
-use Rattle.nm_rules.proofs.Apart.{all_apart-filter, all_apart-put, opened_suits, open_of-in, Suits}
+use Rattle.nm_rules.proofs.OpenRows.{and_parts, open_at-past, open_at-in, in-open_at, rises-filter, rises-put_new, rises-put_old}
+use Rattle.nm_rules.proofs.Apart.{all_apart-filter, all_apart-put, opened_suits, renewed_suits, narrowed_suits, open_of-in, Suits}
 use Rattle.nm_rules.proofs.Looks.{look-after_words}
 
 -- what an OPEN that no row opposes puts, by the counter that it answers
@@ -119,44 +129,106 @@ open_goes s party file args verdict none =
     record {
       share = not-false (is_share args.access args.deny) (valid_claim _ _ _ (or_none _ (claim_fault args.claim) free.arguments).0);
       free = refuse_if-none _ ShareDenied free.conflict;
-      counter = refuse_if-none _ Resource limits.1;
+      counter = refuse_if-none _ Resource (or_none _ _ limits.1).0;
       room = limits.0;
     }
 
--- no operation's seqid is judged yet
-by_row_no_seqid : (there : Option FileRow) (caller : Option Party) (file : ℕ) (args : CloseArgs) (verdict : Verdict) (o : Option OpenRow)
-    → (close_checks_at there caller file args verdict o).seqid ≡ None
-unfolding close_checks_at
-by_row_no_seqid there caller file args verdict None = refl
-by_row_no_seqid there caller file args verdict (Some row) = refl
+-- ---- seqids
 
-by_size_no_seqid : (s : Seen) (caller : Option Party) (file : ℕ) (args : SetAttrArgs) (verdict : Verdict) (b : Bool)
-    → (cond b (size_checks s caller file args verdict) (mode_checks s file args verdict)).seqid ≡ None
+-- what the class of the seqid says of the judgement
+abbrev pub SeqidTells : Option Stop → Judgement → Type 0
+SeqidTells None j = is_fresh j ≡ true
+SeqidTells (Some (Refuse status)) j = Unit {0}
+SeqidTells (Some (Repeat kept)) j = is_fresh j ≡ false
+
+judged_tells : (kept : Reply) (j : Judgement) → SeqidTells (judged_stop kept j) j
+judged_tells kept judged_as.Unknown = refl
+judged_tells kept judged_as.Fresh = refl
+judged_tells kept judged_as.Again = refl
+judged_tells kept judged_as.Bad = tt
+
+full_tells : (full : Bool) → SeqidTells (cond full (Some (Refuse Resource)) None) judged_as.Unknown
+full_tells true = tt
+full_tells false = refl
+
+stop_tells : (full : Bool) (o : Option OwnerRow) (seqid : ℕ) (caller : Option Party) (file : ℕ) (d : Deed)
+    → SeqidTells (owner_stop full o seqid caller file d) (judged o seqid caller file d)
+unfolding owner_stop judged
+stop_tells full None seqid caller file d = full_tells full
+stop_tells full (Some row) seqid caller file d = judged_tells row.reply (judged (Some row) seqid caller file d)
+
+-- what is resolvable in the file system is named by its counter
+named_resolved : (s : Seen) (stateid : StateRef) (row : OpenRow) → resolved s stateid ≡ Some row → named_by (look s) stateid ≡ Some row
+unfolding resolved named_by look
+named_resolved s Zeros row found = cc
+named_resolved s Ones row found = cc
+named_resolved s (Named id) row found = by_fs (id.fs == s.fs) found
+  where
+    by_fs : (b : Bool) → cond b (option_or (open_at id.counter s.opens) (open_at id.counter s.closed)) None ≡ Some row
+        → option_or (open_at id.counter s.opens) (open_at id.counter s.closed) ≡ Some row
+    by_fs true here = here
+    by_fs false elsewhere = cc
+
+-- the judgement of an operation on an open, by its row's owner
+abbrev at_row : Seen → Option Party → ℕ → Deed → ℕ → Option OpenRow → Judgement
+at_row s caller file d seqid o = by_owner (option_map (λ row. row.owner) o)
+  where
+    by_owner : Option Owner → Judgement
+    by_owner None = judged_as.Fresh
+    by_owner (Some owner) = judged (owner_at owner s.owners) seqid caller file d
+
+row_tells : (s : Seen) (caller : Option Party) (file : ℕ) (d : Deed) (seqid : ℕ) (stateid : StateRef) (o : Option OpenRow)
+    → resolved s stateid ≡ o → unresolved_at caller o ≡ None
+    → SeqidTells (owner_stop_at s o seqid caller file d) (at_row s caller file d seqid (named_by (look s) stateid))
+unfolding owner_stop_at
+row_tells s caller file d seqid stateid None found own = cc
+row_tells s caller file d seqid stateid (Some row) found own =
+    rw (named_resolved s stateid row found) (stop_tells false (owner_at row.owner s.owners) seqid caller file d)
+
+by_size_tells : (s : Seen) (caller : Option Party) (file : ℕ) (args : SetAttrArgs) (verdict : Verdict) (b : Bool)
+    → SeqidTells (cond b (size_checks s caller file args verdict) (mode_checks s file args verdict)).seqid judged_as.Fresh
 unfolding size_checks mode_checks
-by_size_no_seqid s caller file args verdict true = refl
-by_size_no_seqid s caller file args verdict false = refl
+by_size_tells s caller file args verdict true = refl
+by_size_tells s caller file args verdict false = refl
 
-pub no_seqid : (s : Seen) (caller : Option Party) (file : ℕ) (verdict : Verdict) (d : Deed) → (checks s caller file verdict d).seqid ≡ None
-unfolding file_checks dir_checks lookup_checks create_checks remove_checks readdir_checks read_checks write_checks setattr_checks commit_checks open_checks close_checks
-no_seqid s caller file verdict (deed.Access _) = refl
-no_seqid s caller file verdict (deed.Close args) = by_row_no_seqid _ caller file args verdict (open_named s args.stateid)
-no_seqid s caller file verdict (deed.Commit _) = refl
-no_seqid s caller file verdict (deed.Create args) = refl
-no_seqid s caller file verdict (deed.GetAttr _) = refl
-no_seqid s caller file verdict (deed.Lookup args) = refl
-no_seqid s caller file verdict deed.LookupP = refl
-no_seqid s None file verdict (deed.Open args) = refl
-no_seqid s (Some party) file verdict (deed.Open args) = refl
-no_seqid s caller file verdict (deed.Read args) = refl
-no_seqid s caller file verdict (deed.ReadDir args) = refl
-no_seqid s caller file verdict (deed.Remove args) = refl
-no_seqid s caller file verdict (deed.SetAttr args) = by_size_no_seqid s caller file args verdict (has_size args.attributes.words)
-no_seqid s caller file verdict (deed.Write args) = refl
+pub seqid_tells : (s : Seen) (caller : Option Party) (file : ℕ) (verdict : Verdict) (d : Deed) → (checks s caller file verdict d).unresolved ≡ None
+    → SeqidTells (checks s caller file verdict d).seqid (judgement (look s) (record { caller = caller; file = file; deed = d }))
+unfolding file_checks dir_checks lookup_checks create_checks remove_checks readdir_checks read_checks write_checks setattr_checks commit_checks open_checks close_checks confirm_checks downgrade_checks judgement_for seqid_owner seqid_of look
+seqid_tells s caller file verdict (deed.Access _) own = refl
+seqid_tells s caller file verdict (deed.Close args) own = row_tells s caller file (deed.Close args) args.seqid args.stateid (resolved s args.stateid) refl own
+seqid_tells s caller file verdict (deed.Commit _) own = refl
+seqid_tells s caller file verdict (deed.Create args) own = refl
+seqid_tells s caller file verdict (deed.GetAttr _) own = refl
+seqid_tells s caller file verdict (deed.Lookup args) own = refl
+seqid_tells s caller file verdict deed.LookupP own = refl
+seqid_tells s None file verdict (deed.Open args) own = cc
+seqid_tells s (Some party) file verdict (deed.Open args) own = stop_tells _ (owner_at (opener party args) s.owners) args.seqid (Some party) file (deed.Open args)
+seqid_tells s caller file verdict (deed.OpenConfirm args) own = row_tells s caller file (deed.OpenConfirm args) args.seqid args.stateid (resolved s args.stateid) refl own
+seqid_tells s caller file verdict (deed.OpenDowngrade args) own = row_tells s caller file (deed.OpenDowngrade args) args.seqid args.stateid (resolved s args.stateid) refl own
+seqid_tells s caller file verdict (deed.Read _) own = refl
+seqid_tells s caller file verdict (deed.ReadDir _) own = refl
+seqid_tells s caller file verdict (deed.Remove _) own = refl
+seqid_tells s caller file verdict (deed.SetAttr args) own = by_size_tells s caller file args verdict (has_size args.attributes.words)
+seqid_tells s caller file verdict (deed.Write _) own = refl
 
--- so no kept reply is given
-pub never_repeats : (s : Seen) (caller : Option Party) (file : ℕ) (verdict : Verdict) (d : Deed) (kept : Reply)
-    → first (checks s caller file verdict d) ≡ Some (Repeat kept) → ⊥
-never_repeats s caller file verdict d kept repeats = repeats_never (checks s caller file verdict d) kept (no_seqid s caller file verdict d) repeats
+-- What nothing stops is fresh.
+pub free_is_fresh : (s : Seen) (call : Call) (verdict : Verdict) → first (checks s call.caller call.file verdict call.deed) ≡ None
+    → is_fresh (judgement (look s) call) ≡ true
+free_is_fresh s call verdict goes =
+    let free : IsFree (checks s call.caller call.file verdict call.deed) = all_free _ goes in
+    subst (λ o. SeqidTells o (judgement (look s) call)) free.seqid (seqid_tells s call.caller call.file verdict call.deed free.unresolved)
+
+-- What gets a kept reply came before.
+pub repeat_is_old : (s : Seen) (call : Call) (verdict : Verdict) (kept : Reply) → first (checks s call.caller call.file verdict call.deed) ≡ Some (Repeat kept)
+    → is_fresh (judgement (look s) call) ≡ false
+repeat_is_old s call verdict kept repeats =
+    let parts = first_repeats (checks s call.caller call.file verdict call.deed) kept repeats in
+    subst (λ o. SeqidTells o (judgement (look s) call)) parts.1 (seqid_tells s call.caller call.file verdict call.deed parts.0)
+
+-- A call that came before changes nothing.
+pub words-old : (n : Now) (call : Call) (verdict : Verdict) (r : Reply) → is_fresh (judgement n call) ≡ false → words n (Asked call verdict) r ≡ no_words
+unfolding words
+words-old n call verdict r old = rw old refl
 
 -- ---- a refusal changes nothing
 
@@ -165,25 +237,30 @@ either_way true x = refl
 either_way false x = refl
 
 pub words-refused : (n : Now) (call : Call) (verdict : Verdict) (status : OpStatus)
-    → words n (Asked call verdict) (reply_with status (refused_value call.deed)) ≡ no_words
+    → words n (Asked call verdict) (reply_with status (refused_value call.deed))
+    ≡ with_owners no_words (owner_word n call (reply_with status (refused_value call.deed)))
 unfolding words set_tree is_empty
-words-refused n call verdict status = by_deed call.caller call.deed
+words-refused n call verdict status =
+    ap (λ w. with_owners w (owner_word n call (reply_with status (refused_value call.deed))))
+    (by_deed (acts n call (reply_with status (refused_value call.deed))) call.caller call.deed)
   where
-    by_deed : (caller : Option Party) (d : Deed) → cond (is_done status) (deed_words n caller call.file d (refused_value d)) no_words ≡ no_words
-    by_deed caller (deed.Access _) = either_way (is_done status) no_words
-    by_deed caller (deed.Close _) = either_way (is_done status) no_words
-    by_deed caller (deed.Commit _) = either_way (is_done status) no_words
-    by_deed caller (deed.Create _) = either_way (is_done status) no_words
-    by_deed caller (deed.GetAttr _) = either_way (is_done status) no_words
-    by_deed caller (deed.Lookup _) = either_way (is_done status) no_words
-    by_deed caller deed.LookupP = either_way (is_done status) no_words
-    by_deed None (deed.Open _) = either_way (is_done status) no_words
-    by_deed (Some party) (deed.Open _) = either_way (is_done status) no_words
-    by_deed caller (deed.Read _) = either_way (is_done status) no_words
-    by_deed caller (deed.ReadDir _) = either_way (is_done status) no_words
-    by_deed caller (deed.Remove _) = either_way (is_done status) no_words
-    by_deed caller (deed.SetAttr _) = either_way (is_done status) no_words
-    by_deed caller (deed.Write _) = either_way (is_done status) no_words
+    by_deed : (b : Bool) (caller : Option Party) (d : Deed) → cond b (deed_words n caller call.file d (refused_value d)) no_words ≡ no_words
+    by_deed b caller (deed.Access _) = either_way b no_words
+    by_deed b caller (deed.Close _) = either_way b no_words
+    by_deed b caller (deed.Commit _) = either_way b no_words
+    by_deed b caller (deed.Create _) = either_way b no_words
+    by_deed b caller (deed.GetAttr _) = either_way b no_words
+    by_deed b caller (deed.Lookup _) = either_way b no_words
+    by_deed b caller deed.LookupP = either_way b no_words
+    by_deed b None (deed.Open _) = either_way b no_words
+    by_deed b (Some party) (deed.Open _) = either_way b no_words
+    by_deed b caller (deed.OpenConfirm _) = either_way b no_words
+    by_deed b caller (deed.OpenDowngrade _) = either_way b no_words
+    by_deed b caller (deed.Read _) = either_way b no_words
+    by_deed b caller (deed.ReadDir _) = either_way b no_words
+    by_deed b caller (deed.Remove _) = either_way b no_words
+    by_deed b caller (deed.SetAttr _) = either_way b no_words
+    by_deed b caller (deed.Write _) = either_way b no_words
 
 -- ---- each word keeps the tables sound
 
@@ -210,6 +287,11 @@ tree_rises (Removed dir name) tree next rising =
 sound_same : (s : Seen) → IsSound s → IsSound (after_words s no_words)
 unfolding after_words opens_after tree_after
 sound_same s sound = record { rising = sound.rising; apart = sound.apart; numbers = sound.numbers }
+
+-- what an owner moves on to has no part in it
+sound_with : (s : Seen) (w : Words) (word : OwnerWord) → IsSound (after_words s w) → IsSound (after_words s (with_owners w word))
+unfolding after_words
+sound_with s w word sound = record { rising = sound.rising; apart = sound.apart; numbers = sound.numbers }
 
 sound_tree : (s : Seen) (word : TreeWord) → MakesNext word s.tree.last_file → IsSound s → IsSound (after_words s (record no_words { tree = word }))
 unfolding after_words opens_after
@@ -265,10 +347,56 @@ sound_opened s party file args sound free =
           (rw (claimed_is_target s.tree.table file (claimed_name args.claim)) (open_makes_next _ file (claimed_name args.claim) args.opentype (target s file args) s.tree.last_file)) sound.numbers;
     }
 
-sound_closed : (s : Seen) (o : Option OpenRow) → IsSound s → IsSound (after_words s (close_words (told.Close (closed_stateid s.fs o))))
+-- the open that a stateid names is found by its counter
+pub named_is_live : (s : Seen) (id : StateRef) (row : OpenRow) → open_named s id ≡ Some row → open_at row.counter s.opens ≡ Some row
+unfolding open_named
+named_is_live s Zeros row found = cc
+named_is_live s Ones row found = cc
+named_is_live s (Named id) row found = by_fs (id.fs == s.fs) found
+  where
+    by_fs : (b : Bool) → cond b (open_at id.counter s.opens) None ≡ Some row → open_at row.counter s.opens ≡ Some row
+    by_fs true here = ap (λ k. open_at k s.opens) (open_at-in id.counter s.opens row here).1 ∙ here
+    by_fs false elsewhere = cc
+
+sound_closed : (s : Seen) (o : Option OpenRow) → IsSound s → IsSound (after_words s (close_words (told.Close (option_map (next_stateid s.fs) o))))
 unfolding opens_after
 sound_closed s None sound = sound_same s sound
 sound_closed s (Some row) sound = sound_drop s (Drop row.counter) (λ x. not (x.counter == row.counter)) refl sound
+
+-- a live open is changed in its place
+sound_put : (s : Seen) (old new : OpenRow) → new.counter ≡ old.counter → open_at old.counter s.opens ≡ Some old → Suits new s.opens → IsSound s
+    → IsSound (after_words s (record no_words { opens = Put new }))
+unfolding after_words opens_after tree_after
+sound_put s old new same live suits sound = record {
+  rising = rises-put_old 0 s.last s.opens new old sound.rising (rw same live);
+  apart = all_apart-put 0 s.last new s.opens sound.rising sound.apart suits;
+  numbers = sound.numbers;
+}
+
+sound_confirmed : (s : Seen) (o : Option OpenRow) → ((row : OpenRow) → o ≡ Some row → open_at row.counter s.opens ≡ Some row) → IsSound s
+    → IsSound (after_words s (confirm_words (look s) (told.OpenConfirm (option_map (next_stateid s.fs) o))))
+unfolding look
+sound_confirmed s None live sound = sound_same s sound
+sound_confirmed s (Some row) live sound = rw (live row refl)
+    (sound_put s row (renewed_row row) refl (live row refl) (renewed_suits row s.opens sound.apart (open_at-in row.counter s.opens row (live row refl)).0) sound)
+
+sound_narrowed : (s : Seen) (args : OpenDowngradeArgs) (o : Option OpenRow) → ((row : OpenRow) → o ≡ Some row → open_at row.counter s.opens ≡ Some row)
+    → is_narrower args.access args.deny o ≡ true → IsSound s
+    → IsSound (after_words s (downgrade_words (look s) args (told.OpenDowngrade (option_map (next_stateid s.fs) o))))
+unfolding look is_narrower
+sound_narrowed s args None live narrower sound = sound_same s sound
+sound_narrowed s args (Some row) live narrower sound = rw (live row refl)
+    (let parts = and_parts _ _ narrower in
+    sound_put s row (narrowed_row args.access args.deny row) refl (live row refl)
+    (narrowed_suits row args.access args.deny s.opens sound.apart (open_at-in row.counter s.opens row (live row refl)).0 (and_parts _ _ parts.0).1 parts.1) sound)
+
+-- an OPEN_DOWNGRADE that nothing stops asks for no more than there is
+pub downgrade_goes : (s : Seen) (caller : Option Party) (file : ℕ) (args : OpenDowngradeArgs) (verdict : Verdict)
+    → first (downgrade_checks s caller file args verdict) ≡ None → is_narrower args.access args.deny (open_named s args.stateid) ≡ true
+unfolding downgrade_checks
+downgrade_goes s caller file args verdict goes =
+    let free : IsFree (downgrade_checks s caller file args verdict) = all_free _ goes in
+    not-false (is_narrower args.access args.deny (open_named s args.stateid)) (refuse_if-none _ Inval free.arguments)
 
 set_makes_none : (row : Option FileRow) (file last : ℕ) (asks : Asks) (told_words : List ℕ) → MakesNext (set_tree row file asks told_words) last
 unfolding set_tree
@@ -283,8 +411,8 @@ write_makes_none row file last args =
 -- the words of a call that nothing stops
 sound_goes : (s : Seen) (caller : Option Party) (file : ℕ) (verdict : Verdict) (d : Deed) → IsSound s
     → first (checks s caller file verdict d) ≡ None
-    → IsSound (after_words s (cond (is_done Nfs4Ok) (deed_words (look s) caller file d (ok_value s caller file d)) no_words))
-unfolding is_done open_checks close_value create_value write_value
+    → IsSound (after_words s (deed_words (look s) caller file d (ok_value s caller file d)))
+unfolding open_checks changed_stateid create_value write_value
 sound_goes s caller file verdict (deed.Access _) sound goes = sound_same s sound
 sound_goes s caller file verdict (deed.Close args) sound goes = sound_closed s (open_named s args.stateid) sound
 sound_goes s caller file verdict (deed.Commit _) sound goes = sound_same s sound
@@ -294,23 +422,35 @@ sound_goes s caller file verdict (deed.Lookup _) sound goes = sound_same s sound
 sound_goes s caller file verdict deed.LookupP sound goes = sound_same s sound
 sound_goes s None file verdict (deed.Open args) sound goes = cc
 sound_goes s (Some party) file verdict (deed.Open args) sound goes = sound_opened s party file args sound (open_goes s party file args verdict goes).free
+sound_goes s caller file verdict (deed.OpenConfirm args) sound goes = sound_confirmed s (open_named s args.stateid) (named_is_live s args.stateid) sound
+sound_goes s caller file verdict (deed.OpenDowngrade args) sound goes =
+    sound_narrowed s args (open_named s args.stateid) (named_is_live s args.stateid) (downgrade_goes s caller file args verdict goes) sound
 sound_goes s caller file verdict (deed.Read _) sound goes = sound_same s sound
 sound_goes s caller file verdict (deed.ReadDir _) sound goes = sound_same s sound
 sound_goes s caller file verdict (deed.Remove args) sound goes = sound_tree s (Removed file args.name) tt sound
 sound_goes s caller file verdict (deed.SetAttr args) sound goes = sound_tree s _ (set_makes_none _ file s.tree.last_file (asks_of args.attributes) _) sound
 sound_goes s caller file verdict (deed.Write args) sound goes = sound_tree s _ (write_makes_none _ file s.tree.last_file args) sound
 
+-- what a call that nothing stops leaves, with what its owner moves on to
+pub words-free : (s : Seen) (call : Call) (verdict : Verdict) → first (checks s call.caller call.file verdict call.deed) ≡ None
+    → words (look s) (Asked call verdict) (reply_by s call None)
+    ≡ with_owners (deed_words (look s) call.caller call.file call.deed (ok_value s call.caller call.file call.deed))
+    (noted (look s) call (reply_by s call None) (seqid_owner (look s) call.caller call.deed))
+unfolding words is_done
+words-free s call verdict goes = rw (free_is_fresh s call verdict goes) refl
+
 -- an event that is answered keeps the tables sound
 pub sound-after : (s : Seen) (event : Event) → IsSound s → IsSound (after s event (answer_to s event))
 unfolding answer_to words opens_after
-sound-after s (Ended party) sound = sound_drop s (DropOf party) (λ x. not (same_party party x.owner.instance)) refl sound
+sound-after s (Ended party) sound = sound_with s (record no_words { opens = DropOf party }) _ (sound_drop s (DropOf party) (λ x. not (same_party party x.owner.instance)) refl sound)
 sound-after s (Asked call verdict) sound =
     by_stop (first (checks s call.caller call.file verdict call.deed)) refl
   where
     by_stop : (x : Option Stop) → first (checks s call.caller call.file verdict call.deed) ≡ x → IsSound (after s (Asked call verdict) (reply_by s call x))
-    by_stop (Some (Refuse status)) refused = rw (words-refused (look s) call verdict status) (sound_same s sound)
-    by_stop (Some (Repeat kept)) repeats = absurd (never_repeats s call.caller call.file verdict call.deed kept repeats)
-    by_stop None goes = sound_goes s call.caller call.file verdict call.deed sound goes
+    by_stop (Some (Refuse status)) refused = subst (λ w. IsSound (after_words s w)) (sym (words-refused (look s) call verdict status)) (sound_with s no_words _ (sound_same s sound))
+    by_stop (Some (Repeat kept)) repeats = subst (λ w. IsSound (after_words s w)) (sym (words-old (look s) call verdict kept (repeat_is_old s call verdict kept repeats))) (sound_same s sound)
+    by_stop None goes = subst (λ w. IsSound (after_words s w)) (sym (words-free s call verdict goes))
+        (sound_with s _ _ (sound_goes s call.caller call.file verdict call.deed sound goes))
 
 -- The tables of a legal list are sound.
 pub sound-seen : (fs : ℕ) (grants : Bool) (es : Past) → IsLegal fs grants es → IsSound (seen fs grants es)
@@ -320,11 +460,13 @@ sound-seen fs grants (x ∷ earlier) legal =
     rw legal.0 (sound-after (seen fs grants earlier) x.event (sound-seen fs grants earlier legal.1))
 
 look-empty : (fs : ℕ) (grants : Bool) → look (empty fs grants) ≡ nothing_yet
-unfolding look file_at child_at open_at
+unfolding look file_at child_at open_at owner_at
 look-empty fs grants = λ i. record {
   file_by = λ k. find (λ row. row.number == k) (root_row ∷ []);
   child_by = fun_ext (λ dir. fun_ext (λ name. no_child dir name)) i;
   open_by = λ k. None;
+  owner_by = λ owner. None;
+  closed = [];
   last = 0;
   last_file = 15;
   change = 0;

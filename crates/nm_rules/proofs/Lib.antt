@@ -6,7 +6,9 @@ pub mod HolderLaws
 pub mod Legal
 pub mod Looks
 pub mod OpenRows
+pub mod OwnerLaws
 pub mod OwnerLemmas
+pub mod OwnerRows
 pub mod PartyLemmas
 pub mod ShareLaws
 pub mod WireLaws

@@ -4,6 +4,7 @@ use Rattle.std.specs.Prelude.{option_map, map, filter, not}
 use mathlib.Core.Path.{fun_ext}
 use Rattle.nm_rules.specs.Contents.{TreeNow, TreeWord, file_at, child_at, is_named, stamped, edited_at, tree_after, file_left, child_left, last_file_left, change_left}
 use Rattle.nm_rules.specs.Contents.TreeWord.{Untouched, Made, Edited, Removed}
+use Rattle.nm_rules.specs.Seqids.{closed_after}
 use Rattle.nm_rules.specs.Shares.{open_at, opens_after, open_left, OpenWord}
 use Rattle.nm_rules.specs.Shares.OpenWord.{Keep, Put, Drop, DropOf}
 use Rattle.nm_rules.specs.Past.{Words, left}
@@ -12,6 +13,7 @@ use Rattle.nm_rules.specs.Sound.{rises, files_rise}
 use Rattle.nm_rules.specs.declared.rows.FileRow.{FileRow}
 use Rattle.nm_rules.specs.declared.rows.OpenRow.{OpenRow}
 use Rattle.nm_rules.proofs.OpenRows.{open_at-put, open_at-drop, open_at-drop_of}
+use Rattle.nm_rules.proofs.OwnerRows.{owner_by-after}
 use Rattle.nm_rules.proofs.FileRows.{file_at-map, file_at-push, file_at-removed, child_at-map, child_at-push, made_child, child_at-removed, stamped_keeps, edited_keeps, kept_by}
 
 pub file_by-after : (word : TreeWord) (tree : TreeNow) (k : ℕ) → files_rise 0 tree.last_file tree.table ≡ true
@@ -85,6 +87,8 @@ look-after_words s w rising numbers = λ i. record {
   file_by = fun_ext (λ k. file_by-after w.tree s.tree k numbers) i;
   child_by = fun_ext (λ dir. fun_ext (λ name. child_by-after w.tree s.tree dir name)) i;
   open_by = fun_ext (λ k. open_by-after w.opens s.last s.opens k rising) i;
+  owner_by = fun_ext (λ owner. owner_by-after w.owners s.owners owner) i;
+  closed = closed_after w.owners s.closed;
   last = cond w.drew (s.last + 1) s.last;
   last_file = last_file-after w.tree s.tree i;
   change = change-after w.tree s.tree i;

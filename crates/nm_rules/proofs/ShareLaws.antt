@@ -5,24 +5,26 @@ use Rattle.std.proofs.lemmas.Bool.{false≢true, both_ways, eqb-false}
 use Rattle.std.proofs.lemmas.Bool.Decides.{nat_tests}
 use Rattle.nm_rules.specs.Parties.{Party, same_party}
 use Rattle.nm_rules.specs.Owners.{same_owner}
-use Rattle.nm_rules.specs.Shares.{open_at, open_of, opened_row, is_opposed, is_open_of, put_open, opens_after, shares_conflict}
+use Rattle.nm_rules.specs.Shares.{open_at, open_of, opened_row, is_opposed, is_open_of, put_open, put_if, renewed_row, narrowed_row, opens_after, shares_conflict}
 use Rattle.nm_rules.specs.Shares.OpenWord.{DropOf}
-use Rattle.nm_rules.specs.Past.{Past, Now, now, words, no_words, is_done, deed_words, close_words, opener}
+use Rattle.nm_rules.specs.Seqids.{OwnerWord, is_fresh}
+use Rattle.nm_rules.specs.Seqids.OwnerWord.{GoneOf}
+use Rattle.nm_rules.specs.Past.{Past, Now, Words, now, acts, judgement, words, no_words, with_owners, is_done, deed_words, close_words, confirm_words, downgrade_words, opener}
 use Rattle.nm_rules.specs.Seen.{Seen, seen, look, after, after_words}
 use Rattle.nm_rules.specs.Checks.{Stop, first}
 use Rattle.nm_rules.specs.Checks.Stop.{Refuse, Repeat}
 use Rattle.nm_rules.specs.Data.{write_value}
 use Rattle.nm_rules.specs.Files.{create_value}
-use Rattle.nm_rules.specs.Opens.{open_checks, open_value, close_value, closed_stateid, open_named, row_to_open, file_to_open}
+use Rattle.nm_rules.specs.Opens.{open_checks, open_value, changed_stateid, next_stateid, is_narrower, row_to_open, file_to_open}
+use Rattle.nm_rules.specs.Stateids.{open_named}
 use Rattle.nm_rules.specs.Answer.{answer_to, reply_by, reply_with, refused_value, ok_value, checks, IsLegal}
 use Rattle.nm_rules.specs.Sound.{IsSound, rises, are_apart, all_apart}
-use Rattle.nm_rules.specs.Readings.{Share, row_share, share_in, share_of, ends_share, takes_share, asked_share, deed_share, joined, opens, closes, names_open_of, AreCompatible}
+use Rattle.nm_rules.specs.Readings.{Share, row_share, share_in, share_of, ends_share, takes_share, sets_share, asked_share, deed_share, joined, opens, closes, narrows, names_open_of, AreCompatible}
 use Rattle.nm_rules.specs.declared.calls.Call.{Call}
 use Rattle.nm_rules.specs.declared.calls.Deed.{Deed}
 use Rattle.nm_rules.specs.declared.calls.Deed.TheVariants as deed
 use Rattle.nm_rules.specs.declared.args.CloseArgs.{CloseArgs}
-use Rattle.nm_rules.specs.declared.calls.StateRef.{StateRef}
-use Rattle.nm_rules.specs.declared.calls.StateRef.TheVariants.{Zeros, Ones, Named}
+use Rattle.nm_rules.specs.declared.args.OpenDowngradeArgs.{OpenDowngradeArgs}
 use Rattle.nm_rules.specs.declared.calls.Owner.{Owner}
 use Rattle.nm_rules.specs.declared.calls.Verdict.{Verdict}
 use Rattle.nm_rules.specs.declared.calls.Event.{Event}
@@ -33,8 +35,8 @@ use Rattle.nm_rules.specs.declared.status.OpStatus.{OpStatus}
 use Rattle.nm_rules.specs.declared.rows.OpenRow.{OpenRow}
 use Rattle.nm_rules.proofs.OwnerLemmas.{same_owner-Decides}
 use Rattle.nm_rules.proofs.OpenRows.{IsIn, and_parts, open_at-past, open_at-in, in-open_at, in-filter}
-use Rattle.nm_rules.proofs.Apart.{Suits, apart_in, opened_suits, open_of-in}
-use Rattle.nm_rules.proofs.Legal.{same_row, open_goes, never_repeats, words-refused, sound-seen, look-seen}
+use Rattle.nm_rules.proofs.Apart.{Suits, apart_in, opened_suits, renewed_suits, narrowed_suits, open_of-in, open_of-none}
+use Rattle.nm_rules.proofs.Legal.{same_row, open_goes, downgrade_goes, free_is_fresh, repeat_is_old, words-refused, words-old, words-free, named_is_live, sound-seen, look-seen}
 
 fails_unless : (b : Bool) → (b ≡ true → ⊥) → b ≡ false
 fails_unless true never = absurd (never refl)
@@ -155,7 +157,8 @@ open_of-drop_of party owner file rows = by_test (same_party party owner.instance
 -- what an entry leaves of an owner's share
 abbrev pub share_left : Now → Owner → ℕ → Event → Reply → Option Share → Option Share
 share_left n owner file event r before =
-    cond (ends_share n owner file event r) None (cond (takes_share n owner file event r) (joined before (asked_share event)) before)
+    cond (ends_share n owner file event r) None (cond (takes_share n owner file event r) (joined before (asked_share event))
+    (cond (sets_share n owner file event r) (Some (asked_share event)) before))
 
 map_cond : (b : Bool) (o : Option OpenRow) → option_map row_share (cond b None o) ≡ cond b None (option_map row_share o)
 map_cond true o = refl
@@ -225,49 +228,47 @@ share-put last rows mine its_file access deny owner file rising apart free =
         ∙ ap (λ f. joined (share_in mine f rows) share) (eqb-true its_file file parts.0)
         ∙ ap (λ o. joined (share_in o file rows) share) (sym ((same_owner-Decides owner mine).0 parts.1))
 
-nothing_ends : (b : Bool) (more before : Option Share) → cond (cond b false false) None (cond (cond b false false) more before) ≡ before
-nothing_ends true more before = refl
-nothing_ends false more before = refl
+nothing_ends : (b : Bool) (more set before : Option Share)
+    → cond (cond b false false) None (cond (cond b false false) more (cond (cond b false false) set before)) ≡ before
+nothing_ends true more set before = refl
+nothing_ends false more set before = refl
 
 -- a refusal leaves every share
 refused_leaves : (n : Now) (owner : Owner) (file : ℕ) (call : Call) (verdict : Verdict) (status : OpStatus) (before : Option Share)
     → share_left n owner file (Asked call verdict) (reply_with status (refused_value call.deed)) before ≡ before
-refused_leaves n owner file call verdict status before = by_deed call.caller call.deed
+refused_leaves n owner file call verdict status before = by_deed (acts n call (reply_with status (refused_value call.deed))) call.caller call.deed
   where
-    by_deed : (caller : Option Party) (d : Deed)
-        → cond (cond (is_done status) (closes n owner file d (refused_value d)) false) None
-        (cond (cond (is_done status) (opens owner file caller d (refused_value d)) false) (joined before (deed_share d)) before) ≡ before
-    by_deed caller (deed.Access _) = nothing_ends (is_done status) _ before
-    by_deed caller (deed.Close _) = nothing_ends (is_done status) _ before
-    by_deed caller (deed.Commit _) = nothing_ends (is_done status) _ before
-    by_deed caller (deed.Create _) = nothing_ends (is_done status) _ before
-    by_deed caller (deed.GetAttr _) = nothing_ends (is_done status) _ before
-    by_deed caller (deed.Lookup _) = nothing_ends (is_done status) _ before
-    by_deed caller deed.LookupP = nothing_ends (is_done status) _ before
-    by_deed None (deed.Open _) = nothing_ends (is_done status) _ before
-    by_deed (Some party) (deed.Open _) = nothing_ends (is_done status) _ before
-    by_deed caller (deed.Read _) = nothing_ends (is_done status) _ before
-    by_deed caller (deed.ReadDir _) = nothing_ends (is_done status) _ before
-    by_deed caller (deed.Remove _) = nothing_ends (is_done status) _ before
-    by_deed caller (deed.SetAttr _) = nothing_ends (is_done status) _ before
-    by_deed caller (deed.Write _) = nothing_ends (is_done status) _ before
+    by_deed : (b : Bool) (caller : Option Party) (d : Deed)
+        → cond (cond b (closes n owner file d (refused_value d)) false) None
+        (cond (cond b (opens owner file caller d (refused_value d)) false) (joined before (deed_share d))
+        (cond (cond b (narrows n owner file d (refused_value d)) false) (Some (deed_share d)) before)) ≡ before
+    by_deed b caller (deed.Access _) = nothing_ends b _ _ before
+    by_deed b caller (deed.Close _) = nothing_ends b _ _ before
+    by_deed b caller (deed.Commit _) = nothing_ends b _ _ before
+    by_deed b caller (deed.Create _) = nothing_ends b _ _ before
+    by_deed b caller (deed.GetAttr _) = nothing_ends b _ _ before
+    by_deed b caller (deed.Lookup _) = nothing_ends b _ _ before
+    by_deed b caller deed.LookupP = nothing_ends b _ _ before
+    by_deed b None (deed.Open _) = nothing_ends b _ _ before
+    by_deed b (Some party) (deed.Open _) = nothing_ends b _ _ before
+    by_deed b caller (deed.OpenConfirm _) = nothing_ends b _ _ before
+    by_deed b caller (deed.OpenDowngrade _) = nothing_ends b _ _ before
+    by_deed b caller (deed.Read _) = nothing_ends b _ _ before
+    by_deed b caller (deed.ReadDir _) = nothing_ends b _ _ before
+    by_deed b caller (deed.Remove _) = nothing_ends b _ _ before
+    by_deed b caller (deed.SetAttr _) = nothing_ends b _ _ before
+    by_deed b caller (deed.Write _) = nothing_ends b _ _ before
 
--- the open that a stateid names is found by its counter
-pub named_is_live : (s : Seen) (id : StateRef) (row : OpenRow) → open_named s id ≡ Some row → open_at row.counter s.opens ≡ Some row
-unfolding open_named
-named_is_live s Zeros row found = cc
-named_is_live s Ones row found = cc
-named_is_live s (Named id) row found = by_fs (id.fs == s.fs) found
-  where
-    by_fs : (b : Bool) → cond b (open_at id.counter s.opens) None ≡ Some row → open_at row.counter s.opens ≡ Some row
-    by_fs true here = ap (λ k. open_at k s.opens) (open_at-in id.counter s.opens row here).1 ∙ here
-    by_fs false elsewhere = cc
+-- so does a call that came before
+old_leaves : (n : Now) (owner : Owner) (file : ℕ) (call : Call) (verdict : Verdict) (r : Reply) (before : Option Share)
+    → is_fresh (judgement n call) ≡ false → share_left n owner file (Asked call verdict) r before ≡ before
+old_leaves n owner file call verdict r before old = rw old refl
 
 -- what a CLOSE that nothing stops leaves of a share
 closed_share : (s : Seen) (args : CloseArgs) (o : Option OpenRow) (owner : Owner) (file : ℕ) → IsSound s
     → ((row : OpenRow) → o ≡ Some row → open_at row.counter s.opens ≡ Some row)
-    → share_in owner file (opens_after (close_words (told.Close (closed_stateid s.fs o))).opens s.opens)
-    ≡ cond (closes (look s) owner file (deed.Close args) (told.Close (closed_stateid s.fs o))) None (share_in owner file s.opens)
+    → share_in owner file (opens_after (close_words (told.Close (option_map (next_stateid s.fs) o))).opens s.opens)
+    ≡ cond (closes (look s) owner file (deed.Close args) (told.Close (option_map (next_stateid s.fs) o))) None (share_in owner file s.opens)
 unfolding opens_after look
 closed_share s args None owner file sound live = refl
 closed_share s args (Some row) owner file sound live =
@@ -275,12 +276,89 @@ closed_share s args (Some row) owner file sound live =
     ∙ map_cond (is_open_of owner file row) (open_of owner file s.opens)
     ∙ ap (λ o. cond (names_open_of owner file o) None (share_in owner file s.opens)) (sym (live row refl))
 
+-- a live open of an owner on a file is the one that is found by these
+open_of-live : (last : ℕ) (owner : Owner) (file : ℕ) (rows : List OpenRow) (row : OpenRow) → rises 0 last rows ≡ true → all_apart rows ≡ true
+    → open_at row.counter rows ≡ Some row → is_open_of owner file row ≡ true → open_of owner file rows ≡ Some row
+open_of-live last owner file rows row rising apart live its = by_found (open_of owner file rows) refl
+  where
+    within : IsIn row rows
+    within = (open_at-in row.counter rows row live).0
+
+    one : (x : OpenRow) → IsIn x rows → x.counter ≡ row.counter → x ≡ row
+    one x at e =
+        let found : open_at x.counter rows ≡ Some x = (in-open_at 0 last rows x rising at).0 in
+        let found_too : open_at x.counter rows ≡ Some row = rw e live in
+        cc
+
+    by_counter : (x : OpenRow) → IsIn x rows → is_open_of owner file x ≡ true → (b : Bool) → (x.counter == row.counter) ≡ b → Some x ≡ Some row
+    by_counter x at is_x true same = ap (λ r. Some r) (one x at (eqb-true x.counter row.counter same))
+    by_counter x at is_x false other =
+        absurd (not_apart owner file x row is_x its (apart_in rows x row apart at within (eqb-false x.counter row.counter other)))
+
+    by_found : (o : Option OpenRow) → open_of owner file rows ≡ o → o ≡ Some row
+    by_found None none = absurd (false≢true (sym (open_of-none owner file rows row none within) ∙ its))
+    by_found (Some x) found =
+        let at = open_of-in owner file rows x found in
+        by_counter x at.0 at.1 (x.counter == row.counter) refl
+
+-- a live open that is changed in its place, and keeps its owner and file
+changed_share : (s : Seen) (row new : OpenRow) (owner : Owner) (file : ℕ) → IsSound s → open_at row.counter s.opens ≡ Some row
+    → new.counter ≡ row.counter → new.owner ≡ row.owner → new.file ≡ row.file → Suits new s.opens
+    → share_in owner file (put_open new s.opens) ≡ cond (is_open_of owner file row) (Some (row_share new)) (share_in owner file s.opens)
+changed_share s row new owner file sound live same_counter same_owner_too same_file suits =
+    ap (option_map row_share) (open_of-put owner file new s.opens suits replaces)
+    ∙ ap (λ b. option_map row_share (cond b (Some new) (open_of owner file s.opens))) (same_is owner file new row (same_owner_too, same_file))
+    ∙ by_test (is_open_of owner file row)
+  where
+    replaces : Replaces new s.opens
+    replaces y at e =
+        let found_y : open_at y.counter s.opens ≡ Some y = (in-open_at 0 s.last s.opens y sound.rising at).0 in
+        let found_row : open_at y.counter s.opens ≡ Some row = rw (e, same_counter) live in
+        let same : y ≡ row = cc in
+        (ap (λ (r : OpenRow). r.owner) same ∙ sym same_owner_too, ap (λ (r : OpenRow). r.file) same ∙ sym same_file)
+
+    by_test : (b : Bool) → option_map row_share (cond b (Some new) (open_of owner file s.opens)) ≡ cond b (Some (row_share new)) (share_in owner file s.opens)
+    by_test true = refl
+    by_test false = refl
+
+-- what an OPEN_CONFIRM that nothing stops leaves of a share: all of it
+confirmed_share : (s : Seen) (o : Option OpenRow) (owner : Owner) (file : ℕ) → IsSound s
+    → ((row : OpenRow) → o ≡ Some row → open_at row.counter s.opens ≡ Some row)
+    → share_in owner file (opens_after (confirm_words (look s) (told.OpenConfirm (option_map (next_stateid s.fs) o))).opens s.opens)
+    ≡ share_in owner file s.opens
+unfolding opens_after look
+confirmed_share s None owner file sound live = refl
+confirmed_share s (Some row) owner file sound live =
+    ap (λ o. share_in owner file (opens_after (put_if (option_map renewed_row o)) s.opens)) (live row refl)
+    ∙ changed_share s row (renewed_row row) owner file sound (live row refl) refl refl refl
+    (renewed_suits row s.opens sound.apart (open_at-in row.counter s.opens row (live row refl)).0)
+    ∙ by_test (is_open_of owner file row) refl
+  where
+    by_test : (b : Bool) → is_open_of owner file row ≡ b → cond b (Some (row_share row)) (share_in owner file s.opens) ≡ share_in owner file s.opens
+    by_test true its = sym (ap (option_map row_share) (open_of-live s.last owner file s.opens row sound.rising sound.apart (live row refl) its))
+    by_test false other = refl
+
+-- what an OPEN_DOWNGRADE that nothing stops leaves of a share: what it asked
+narrowed_share : (s : Seen) (args : OpenDowngradeArgs) (o : Option OpenRow) (owner : Owner) (file : ℕ) → IsSound s
+    → ((row : OpenRow) → o ≡ Some row → open_at row.counter s.opens ≡ Some row) → is_narrower args.access args.deny o ≡ true
+    → share_in owner file (opens_after (downgrade_words (look s) args (told.OpenDowngrade (option_map (next_stateid s.fs) o))).opens s.opens)
+    ≡ cond (narrows (look s) owner file (deed.OpenDowngrade args) (told.OpenDowngrade (option_map (next_stateid s.fs) o)))
+    (Some (record { access = args.access; deny = args.deny })) (share_in owner file s.opens)
+unfolding opens_after look is_narrower
+narrowed_share s args None owner file sound live narrower = refl
+narrowed_share s args (Some row) owner file sound live narrower =
+    let parts = and_parts _ _ narrower in
+    ap (λ o. share_in owner file (opens_after (put_if (option_map (narrowed_row args.access args.deny) o)) s.opens)) (live row refl)
+    ∙ changed_share s row (narrowed_row args.access args.deny row) owner file sound (live row refl) refl refl refl
+    (narrowed_suits row args.access args.deny s.opens sound.apart (open_at-in row.counter s.opens row (live row refl)).0 (and_parts _ _ parts.0).1 parts.1)
+    ∙ ap (λ o. cond (names_open_of owner file o) (Some (record { access = args.access; deny = args.deny })) (share_in owner file s.opens)) (sym (live row refl))
+
 kept_share : (s : Seen) (owner : Owner) (file : ℕ) → share_in owner file (after_words s no_words).opens ≡ share_in owner file s.opens
 unfolding after_words opens_after
 kept_share s owner file = refl
 
 ended_share : (s : Seen) (party : Party) (owner : Owner) (file : ℕ)
-    → share_in owner file (after_words s (record no_words { opens = DropOf party })).opens ≡ cond (same_party party owner.instance) None (share_in owner file s.opens)
+    → share_in owner file (after_words s (with_owners (record no_words { opens = DropOf party }) (GoneOf party))).opens ≡ cond (same_party party owner.instance) None (share_in owner file s.opens)
 unfolding after_words opens_after
 ended_share s party owner file =
     ap (option_map row_share) (open_of-drop_of party owner file s.opens) ∙ map_cond (same_party party owner.instance) (open_of owner file s.opens)
@@ -294,8 +372,9 @@ share_goes : (s : Seen) (caller : Option Party) (its_file : ℕ) (verdict : Verd
     → first (checks s caller its_file verdict d) ≡ None
     → share_in owner file (after_words s (deed_words (look s) caller its_file d (ok_value s caller its_file d))).opens
     ≡ cond (closes (look s) owner file d (ok_value s caller its_file d)) None
-    (cond (opens owner file caller d (ok_value s caller its_file d)) (joined (share_in owner file s.opens) (deed_share d)) (share_in owner file s.opens))
-unfolding after_words opens_after open_value close_value open_checks row_to_open look create_value write_value
+    (cond (opens owner file caller d (ok_value s caller its_file d)) (joined (share_in owner file s.opens) (deed_share d))
+    (cond (narrows (look s) owner file d (ok_value s caller its_file d)) (Some (deed_share d)) (share_in owner file s.opens)))
+unfolding after_words opens_after open_value changed_stateid open_checks row_to_open look create_value write_value
 share_goes s caller its_file verdict (deed.Access _) owner file sound goes = refl
 share_goes s caller its_file verdict (deed.Close args) owner file sound goes =
     closed_share s args (open_named s args.stateid) owner file sound (named_is_live s args.stateid)
@@ -310,19 +389,32 @@ share_goes s (Some party) its_file verdict (deed.Open args) owner file sound goe
     (same_row s.last s.opens (opener party args) (file_to_open s its_file args) args.access args.deny sound.rising (open_of (opener party args) (file_to_open s its_file args) s.opens) refl)
     ∙ share-put s.last s.opens (opener party args) (file_to_open s its_file args) args.access args.deny owner file sound.rising sound.apart
     (open_goes s party its_file args verdict goes).free
+share_goes s caller its_file verdict (deed.OpenConfirm args) owner file sound goes = confirmed_share s (open_named s args.stateid) owner file sound (named_is_live s args.stateid)
+share_goes s caller its_file verdict (deed.OpenDowngrade args) owner file sound goes =
+    narrowed_share s args (open_named s args.stateid) owner file sound (named_is_live s args.stateid) (downgrade_goes s caller its_file args verdict goes)
 share_goes s caller its_file verdict (deed.Read _) owner file sound goes = refl
 share_goes s caller its_file verdict (deed.ReadDir _) owner file sound goes = refl
 share_goes s caller its_file verdict (deed.Remove args) owner file sound goes = refl
 share_goes s caller its_file verdict (deed.SetAttr args) owner file sound goes = refl
 share_goes s caller its_file verdict (deed.Write args) owner file sound goes = refl
 
+-- the words of an owner have no part in it
+with_share : (s : Seen) (w : Words) (word : OwnerWord) (owner : Owner) (file : ℕ)
+    → share_in owner file (after_words s (with_owners w word)).opens ≡ share_in owner file (after_words s w).opens
+unfolding after_words
+with_share s w word owner file = refl
+
 -- the same, with the test that its status is OK
 done_share : (s : Seen) (call : Call) (verdict : Verdict) (owner : Owner) (file : ℕ) → IsSound s
     → first (checks s call.caller call.file verdict call.deed) ≡ None
     → share_in owner file (after s (Asked call verdict) (reply_by s call None)).opens
     ≡ share_left (look s) owner file (Asked call verdict) (reply_by s call None) (share_in owner file s.opens)
-unfolding words is_done
-done_share s call verdict owner file sound goes = share_goes s call.caller call.file verdict call.deed owner file sound goes
+unfolding is_done
+done_share s call verdict owner file sound goes =
+    ap (λ w. share_in owner file (after_words s w).opens) (words-free s call verdict goes)
+    ∙ with_share s _ _ owner file
+    ∙ share_goes s call.caller call.file verdict call.deed owner file sound goes
+    ∙ rw (free_is_fresh s call verdict goes) refl
 
 -- an event that is answered leaves of each share what it should
 share-after : (s : Seen) (event : Event) (owner : Owner) (file : ℕ) → IsSound s
@@ -337,9 +429,14 @@ share-after s (Asked call verdict) owner file sound =
         ≡ share_left (look s) owner file (Asked call verdict) (reply_by s call x) (share_in owner file s.opens)
     by_stop (Some (Refuse status)) refused =
         ap (λ w. share_in owner file (after_words s w).opens) (words-refused (look s) call verdict status)
+        ∙ with_share s no_words _ owner file
         ∙ kept_share s owner file
         ∙ sym (refused_leaves (look s) owner file call verdict status (share_in owner file s.opens))
-    by_stop (Some (Repeat kept)) repeats = absurd (never_repeats s call.caller call.file verdict call.deed kept repeats)
+    by_stop (Some (Repeat kept)) repeats =
+        let old = repeat_is_old s call verdict kept repeats in
+        ap (λ w. share_in owner file (after_words s w).opens) (words-old (look s) call verdict kept old)
+        ∙ kept_share s owner file
+        ∙ sym (old_leaves (look s) owner file call verdict kept (share_in owner file s.opens) old)
     by_stop None goes = done_share s call verdict owner file sound goes
 
 -- The table of a legal list keeps each owner's share.

@@ -9,6 +9,7 @@ abbrev pub verb_of : Action → Verb
 verb_of (action.Open _) = verb.Open
 verb_of (action.Create _) = verb.Create
 verb_of (action.Close _) = verb.Close
+verb_of (action.Downgrade _) = verb.Downgrade
 verb_of (action.Read _) = verb.Read
 verb_of (action.Write _) = verb.Write
 verb_of (action.Size _) = verb.Size
@@ -20,6 +21,7 @@ abbrev pub fs_of : Action → ℕ
 fs_of (action.Open a) = a.fs
 fs_of (action.Create a) = a.fs
 fs_of (action.Close a) = a.fs
+fs_of (action.Downgrade a) = a.fs
 fs_of (action.Read a) = a.fs
 fs_of (action.Write a) = a.fs
 fs_of (action.Size a) = a.fs

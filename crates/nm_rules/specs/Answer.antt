@@ -8,7 +8,7 @@ use Rattle.nm_rules.specs.Checks.{Checks, Stop, first}
 use Rattle.nm_rules.specs.Checks.Stop.{Refuse, Repeat}
 use Rattle.nm_rules.specs.Data.{commit_checks, read_checks, read_value, write_checks, write_value, setattr_checks, setattr_value}
 use Rattle.nm_rules.specs.Files.{current, child, file_checks, dir_checks, access_value, create_checks, create_value, getattr_value, lookup_checks, readdir_checks, readdir_value, remove_checks, changed_dir}
-use Rattle.nm_rules.specs.Opens.{open_checks, open_value, close_checks, close_value}
+use Rattle.nm_rules.specs.Opens.{open_checks, open_value, close_checks, confirm_checks, downgrade_checks, changed_stateid}
 use Rattle.nm_rules.specs.declared.calls.Call.{Call}
 use Rattle.nm_rules.specs.declared.calls.Deed.{Deed}
 use Rattle.nm_rules.specs.declared.calls.Deed.TheVariants as deed
@@ -31,6 +31,8 @@ checks s caller file verdict (deed.GetAttr _) = file_checks s file verdict
 checks s caller file verdict (deed.Lookup args) = lookup_checks s file args verdict
 checks s caller file verdict deed.LookupP = dir_checks s file verdict
 checks s caller file verdict (deed.Open args) = open_checks s caller file args verdict
+checks s caller file verdict (deed.OpenConfirm args) = confirm_checks s caller file args verdict
+checks s caller file verdict (deed.OpenDowngrade args) = downgrade_checks s caller file args verdict
 checks s caller file verdict (deed.Read args) = read_checks s caller file args verdict
 checks s caller file verdict (deed.ReadDir args) = readdir_checks s file args verdict
 checks s caller file verdict (deed.Remove args) = remove_checks s file args verdict
@@ -47,6 +49,8 @@ refused_value (deed.GetAttr _) = told.GetAttr None
 refused_value (deed.Lookup _) = told.Lookup None
 refused_value deed.LookupP = told.LookupP None
 refused_value (deed.Open _) = told.Open None
+refused_value (deed.OpenConfirm _) = told.OpenConfirm None
+refused_value (deed.OpenDowngrade _) = told.OpenDowngrade None
 refused_value (deed.Read _) = told.Read None
 refused_value (deed.ReadDir _) = told.ReadDir None
 refused_value (deed.Remove _) = told.Remove None
@@ -55,13 +59,15 @@ refused_value (deed.Write _) = told.Write None
 
 abbrev pub ok_value : Seen → Option Party → ℕ → Deed → ReplyValue
 ok_value s caller file (deed.Access args) = told.Access (access_value args)
-ok_value s caller file (deed.Close args) = told.Close (close_value s args)
+ok_value s caller file (deed.Close args) = told.Close (changed_stateid s args.stateid)
 ok_value s caller file (deed.Commit _) = told.Commit (Some 0)
 ok_value s caller file (deed.Create args) = told.Create (create_value s file args)
 ok_value s caller file (deed.GetAttr args) = told.GetAttr (getattr_value (current s file) args)
 ok_value s caller file (deed.Lookup args) = told.Lookup (child s file args.name)
 ok_value s caller file deed.LookupP = told.LookupP (option_map (λ row. row.parent) (current s file))
 ok_value s caller file (deed.Open args) = told.Open (open_value s caller file args)
+ok_value s caller file (deed.OpenConfirm args) = told.OpenConfirm (changed_stateid s args.stateid)
+ok_value s caller file (deed.OpenDowngrade args) = told.OpenDowngrade (changed_stateid s args.stateid)
 ok_value s caller file (deed.Read args) = told.Read (read_value (current s file) args)
 ok_value s caller file (deed.ReadDir args) = told.ReadDir (readdir_value s file args)
 ok_value s caller file (deed.Remove _) = told.Remove (Some (changed_dir s file))

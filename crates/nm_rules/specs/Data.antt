@@ -7,7 +7,8 @@ use Rattle.nm_rules.specs.Attributes.{Asks, asks_of, asked_size, asked_mode, has
 use Rattle.nm_rules.specs.Checks.{Checks, nothing_stops, refuse_if, lease_stop, missing_stop, is_dir}
 use Rattle.nm_rules.specs.Contents.{size_limit, transfer_limit, part, taken}
 use Rattle.nm_rules.specs.Files.{current, changes_past_end, size_of, fills_up, sized_limit}
-use Rattle.nm_rules.specs.Opens.{open_named, is_own, stateid_stop, is_denied}
+use Rattle.nm_rules.specs.Opens.{is_denied}
+use Rattle.nm_rules.specs.Stateids.{open_named, resolved, unresolved_at, live_stop}
 use Rattle.nm_rules.specs.Parties.{Party}
 use Rattle.nm_rules.specs.Seen.{Seen}
 use Rattle.nm_rules.specs.declared.args.ReadArgs.{ReadArgs}
@@ -19,35 +20,28 @@ use Rattle.nm_rules.specs.declared.calls.Verdict.{Verdict}
 use Rattle.nm_rules.specs.declared.results.ReadOk.{ReadOk}
 use Rattle.nm_rules.specs.declared.results.WriteOk.{WriteOk}
 use Rattle.nm_rules.specs.declared.rows.FileRow.{FileRow}
-use Rattle.nm_rules.specs.declared.rows.OpenRow.{OpenRow}
 use Rattle.nm_rules.specs.declared.status.OpStatus.{OpStatus}
 use Rattle.nm_rules.specs.declared.status.OpStatus.TheVariants.{IsDir, Inval, AttrNotSupp, BadStateId, Locked, FBig, NoSpc, Resource}
 
 -- ---- stateids
 
--- A stateid that a server made has to stand for a live open of the caller's own. The special ones stand for none.
+-- A stateid that a server made has to be resolvable, and the caller's own. The special ones stand for none.
 unfoldable pub unresolved_stop : Seen → Option Party → StateRef → Option OpStatus
 unresolved_stop s caller Zeros = None
 unresolved_stop s caller Ones = None
-unresolved_stop s caller (Named id) = unresolved_at caller (open_named s (Named id))
-  where
-    unresolved_at : Option Party → Option OpenRow → Option OpStatus
-    unresolved_at caller None = Some BadStateId
-    unresolved_at caller (Some row) = refuse_if (not (is_own caller row)) BadStateId
+unresolved_stop s caller (Named id) = unresolved_at caller (resolved s (Named id))
 
 -- without a size the instance isn't compared
 unfoldable pub unknown_stop : Seen → StateRef → Option OpStatus
 unknown_stop s Zeros = None
 unknown_stop s Ones = None
-unknown_stop s (Named id) = refuse_if (is_none (open_named s (Named id))) BadStateId
+unknown_stop s (Named id) = refuse_if (is_none (resolved s (Named id))) BadStateId
 
--- what the open says that the stateid stands for, where there is one
-abbrev pub stale_stop : Seen → ℕ → StateRef → ℕ → Option OpStatus
-stale_stop s file stateid access = stale_at file stateid access (open_named s stateid)
-  where
-    stale_at : ℕ → StateRef → ℕ → Option OpenRow → Option OpStatus
-    stale_at file stateid access None = None
-    stale_at file stateid access (Some row) = stateid_stop file stateid access row
+-- what the open says that the stateid stands for, unless it is a special one
+unfoldable pub stale_stop : Seen → ℕ → StateRef → ℕ → Option OpStatus
+stale_stop s file Zeros access = None
+stale_stop s file Ones access = None
+stale_stop s file (Named id) access = live_stop s file (Named id) access (open_named s (Named id))
 
 -- The special stateids meet denies: that of all zeros those of reading and of writing, that of all ones only the latter
 -- (RFC 7530, 9.1.4.3).

@@ -11,13 +11,16 @@ pub mod Holders
 pub mod Lists
 pub mod Names
 pub mod Opens
+pub mod OwnerReadings
 pub mod Owners
 pub mod Parties
 pub mod Past
 pub mod Readings
+pub mod Repeats
 pub mod Seen
 pub mod Seqids
 pub mod Shares
 pub mod Sound
+pub mod Stateids
 pub mod Statuses
 pub mod Wire

@@ -1,24 +1,30 @@
--- OPEN and CLOSE (RFC 7530, 16.16 and 16.2): when each is refused, and what its OK tells.
-use Rattle.std.specs.Prelude.{◌≡◌, ◌==◌, ◌&&◌, ◌||◌, ◌^◌, not, nat_le, ℕ, ◌+◌, ◌-◌, ◌%◌, Bool, true, false, List, [], Option, Some, None, unwrap_or, is_none, if◌then◌else◌}
+-- Operations on opens (RFC 7530, 16.2, 16.16, 16.18 and 16.19): when each is refused, and what its OK tells.
+use Rattle.std.specs.Prelude.{◌≡◌, ◌==◌, ◌&&◌, ◌||◌, ◌^◌, not, nat_le, nat_lt, ℕ, ◌+◌, Bool, true, false, List, [], length, filter, Option, Some, None, option_map, unwrap_or, is_none, bit_or, if◌then◌else◌}
 use Rattle.std.specs.List.{list_any}
 use Rattle.std.specs.Option.{option_or}
-use Rattle.nm_rules.specs.Parties.{Party, same_party}
+use Rattle.nm_rules.specs.Parties.{Party}
+use Rattle.nm_rules.specs.Owners.{same_owner}
 use Rattle.nm_rules.specs.Attributes.{Asks, asked_size, asked_mode, is_invalid, is_unsupported, set_words}
 use Rattle.nm_rules.specs.Contents.{file_at, child_at}
-use Rattle.nm_rules.specs.Shares.{meets, next_seqid, open_at, open_of, opened_row, is_opposed}
+use Rattle.nm_rules.specs.Seqids.{is_confirmed, owner_at}
+use Rattle.nm_rules.specs.Shares.{meets, next_seqid, open_of, opened_row, is_opposed}
 use Rattle.nm_rules.specs.Past.{claimed_name, opener, opentype_asks, cuts}
 use Rattle.nm_rules.specs.Seen.{Seen}
 use Rattle.nm_rules.specs.Checks.{Checks, nothing_stops, refuse_if, lease_stop, missing_stop, is_dir, is_no_dir, arguments_fault}
 use Rattle.nm_rules.specs.Files.{current, change_of, changes_past_end, makes_past_end, sized_limit}
+use Rattle.nm_rules.specs.Stateids.{stateid_of, open_named, resolved, unresolved_at, owner_stop, owner_stop_at, live_stop, confirm_stop}
 use Rattle.nm_rules.specs.declared.args.Claim.{Claim}
 use Rattle.nm_rules.specs.declared.args.Claim.TheVariants.{Null, Previous, DelegateCur, DelegatePrev}
 use Rattle.nm_rules.specs.declared.args.CloseArgs.{CloseArgs}
 use Rattle.nm_rules.specs.declared.args.OpenArgs.{OpenArgs}
+use Rattle.nm_rules.specs.declared.args.OpenConfirmArgs.{OpenConfirmArgs}
+use Rattle.nm_rules.specs.declared.args.OpenDowngradeArgs.{OpenDowngradeArgs}
 use Rattle.nm_rules.specs.declared.args.OpenType.{OpenType}
 use Rattle.nm_rules.specs.declared.args.OpenType.TheVariants.{NoCreate, Unchecked, Guarded, Exclusive}
+use Rattle.nm_rules.specs.declared.calls.Deed.TheVariants as deed
+use Rattle.nm_rules.specs.declared.calls.Owner.{Owner}
 use Rattle.nm_rules.specs.declared.calls.StateId.{StateId}
 use Rattle.nm_rules.specs.declared.calls.StateRef.{StateRef}
-use Rattle.nm_rules.specs.declared.calls.StateRef.TheVariants.{Zeros, Ones, Named}
 use Rattle.nm_rules.specs.declared.calls.Verdict.{Verdict}
 use Rattle.nm_rules.specs.declared.results.ChangeInfo.{ChangeInfo}
 use Rattle.nm_rules.specs.declared.results.OpenDelegation.TheVariants as delegation
@@ -26,46 +32,11 @@ use Rattle.nm_rules.specs.declared.results.Opened.{Opened}
 use Rattle.nm_rules.specs.declared.rows.FileRow.{FileRow}
 use Rattle.nm_rules.specs.declared.rows.OpenRow.{OpenRow}
 use Rattle.nm_rules.specs.declared.status.OpStatus.{OpStatus}
-use Rattle.nm_rules.specs.declared.status.OpStatus.TheVariants.{NotDir, IsDir, Inval, AttrNotSupp, NoGrace, NotSupp, NoEnt, Exist, ShareDenied, Resource, OldStateId, BadStateId, StaleClientId, OpenMode}
-
--- ---- stateids
-
--- the live open that a stateid names in this file system
-unfoldable pub open_named : Seen → StateRef → Option OpenRow
-open_named s Zeros = None
-open_named s Ones = None
-open_named s (Named id) = if id.fs == s.fs then open_at id.counter s.opens else None
-
--- Of two seqids of a stateid the given one is older where it is at most 2^31 behind (RFC 7530, 9.1.4.2).
-abbrev pub seqid_stop : ℕ → ℕ → Option OpStatus
-seqid_stop now given =
-    if now == given then None
-    else (if nat_le ((now + 4294967296 - given) % 4294967296) 2147483648 then Some OldStateId else Some BadStateId)
-
-abbrev pub given_seqid : StateRef → ℕ
-given_seqid Zeros = 0
-given_seqid Ones = 4294967295
-given_seqid (Named id) = id.seqid
-
--- A stateid has to be of the current file and as it was told last, and its open has to have this access.
-unfoldable pub stateid_stop : ℕ → StateRef → ℕ → OpenRow → Option OpStatus
-stateid_stop file stateid access row =
-    if row.file == file
-    then option_or (seqid_stop row.seqid (given_seqid stateid)) (refuse_if (not (access == 0) && not (meets access row.access)) OpenMode)
-    else Some BadStateId
-
--- a live open is named, of the caller's own instance
-abbrev pub is_own : Option Party → OpenRow → Bool
-is_own None row = false
-is_own (Some party) row = same_party party row.owner.instance
+use Rattle.nm_rules.specs.declared.status.OpStatus.TheVariants.{NotDir, IsDir, Inval, AttrNotSupp, NoGrace, NotSupp, NoEnt, Exist, ShareDenied, Resource, BadStateId, StaleClientId}
 
 -- some open of the file denies that access
 unfoldable pub is_denied : ℕ → ℕ → List OpenRow → Bool
 is_denied access file rows = list_any (λ row. (row.file == file) && meets access row.deny) rows
-
--- the stateid of an open
-abbrev pub stateid_of : ℕ → OpenRow → StateId
-stateid_of fs row = record { seqid = row.seqid; fs = fs; counter = row.counter }
 
 -- ---- OPEN
 
@@ -138,6 +109,23 @@ name_refusal (Guarded _) (Some _) row = Some Exist
 name_refusal (Exclusive _) None row = None
 name_refusal (Exclusive verifier) (Some _) row = if is_made_by verifier row then None else Some Exist
 
+-- ---- rows: owners, opens, and closed opens whose CLOSE is their owner's kept call count together
+
+abbrev pub rows_limit : ℕ
+rows_limit = 65536
+
+abbrev pub rows_taken : Seen → ℕ
+rows_taken s = length s.owners + length s.opens + length s.closed
+
+abbrev pub one_if : Bool → ℕ
+one_if test = if test then 1 else 0
+
+-- The rows that an OK of OPEN leaves: its owner's and its open's may be new, and a closed open of the owner's goes.
+abbrev pub rows_with_open : Seen → Owner → ℕ → ℕ
+rows_with_open s owner file = length s.owners + one_if (is_none (owner_at owner s.owners))
+    + (length s.opens + one_if (is_none (open_of owner file s.opens)))
+    + length (filter (λ x. not (same_owner owner x.owner)) s.closed)
+
 -- No stateid is made past the last counter, 2^63.
 abbrev pub draws_past_end : Seen → Party → ℕ → OpenArgs → Bool
 draws_past_end s party file args = is_none (open_of (opener party args) (file_to_open s file args) s.opens) && nat_le (2 ^ 63) s.last
@@ -149,13 +137,15 @@ tree_limit s None opentype =
 tree_limit s (Some _) opentype = refuse_if (cuts opentype && changes_past_end s) Resource
 
 unfoldable pub open_limit : Seen → Party → ℕ → OpenArgs → Option OpStatus
-open_limit s party file args =
-    option_or (tree_limit s (target s file args) args.opentype) (refuse_if (draws_past_end s party file args) Resource)
+open_limit s party file args = option_or (tree_limit s (target s file args) args.opentype)
+    (option_or (refuse_if (draws_past_end s party file args) Resource)
+    (refuse_if (nat_lt rows_limit (rows_with_open s (opener party args) (file_to_open s file args))) Resource))
 
 unfoldable pub open_checks : Seen → Option Party → ℕ → OpenArgs → Verdict → Checks
 open_checks s None file args verdict = record nothing_stops { unresolved = Some StaleClientId }
 open_checks s (Some party) file args verdict = record nothing_stops {
   unresolved = claim_unresolved args.claim;
+  seqid = owner_stop (nat_le rows_limit (rows_taken s)) (owner_at (opener party args) s.owners) args.seqid (Some party) file (deed.Open args);
   lease = lease_stop verdict;
   missing = missing_stop (current s file);
   kind = open_kind s.tree.table file (claimed_name args.claim);
@@ -194,14 +184,18 @@ abbrev pub open_set : Option ℕ → OpenType → List ℕ
 open_set None opentype = set_words (asked_size (opentype_asks opentype)) (asked_mode (opentype_asks opentype))
 open_set (Some _) opentype = if cuts opentype then set_words (Some 0) None else []
 
--- The value of an OK of OPEN: 4 says that locks follow POSIX, and no delegation is granted yet.
+-- 4 says that locks follow POSIX, and 2 that the owner has to confirm.
+abbrev pub open_flags : Bool → ℕ
+open_flags confirmed = if confirmed then 4 else 6
+
+-- The value of an OK of OPEN. No delegation is granted yet.
 unfoldable pub open_value : Seen → Option Party → ℕ → OpenArgs → Option Opened
 open_value s None file args = None
 open_value s (Some party) file args = Some (record {
   ok = record {
     stateid = stateid_of s.fs (row_to_open s party file args);
     cinfo = open_change s file (touches (target s file args) args.opentype);
-    rflags = 4;
+    rflags = open_flags (is_confirmed (owner_at (opener party args) s.owners));
     attrset = open_set (target s file args) args.opentype;
     delegation = delegation.None;
   };
@@ -210,24 +204,53 @@ open_value s (Some party) file args = Some (record {
 
 -- ---- CLOSE
 
-unfoldable pub close_checks_at : Option FileRow → Option Party → ℕ → CloseArgs → Verdict → Option OpenRow → Checks
-close_checks_at there caller file args verdict None = record nothing_stops { unresolved = Some BadStateId }
-close_checks_at there caller file args verdict (Some row) = record nothing_stops {
-  unresolved = refuse_if (not (is_own caller row)) BadStateId;
+unfoldable pub close_checks : Seen → Option Party → ℕ → CloseArgs → Verdict → Checks
+close_checks s caller file args verdict = record nothing_stops {
+  unresolved = unresolved_at caller (resolved s args.stateid);
+  seqid = owner_stop_at s (resolved s args.stateid) args.seqid caller file (deed.Close args);
   lease = lease_stop verdict;
-  missing = missing_stop there;
-  kind = refuse_if (is_dir there) IsDir;
-  stale = stateid_stop file args.stateid 0 row;
+  missing = missing_stop (current s file);
+  kind = refuse_if (is_dir (current s file)) IsDir;
+  stale = live_stop s file args.stateid 0 (open_named s args.stateid);
 }
 
-unfoldable pub close_checks : Seen → Option Party → ℕ → CloseArgs → Verdict → Checks
-close_checks s caller file args verdict = close_checks_at (current s file) caller file args verdict (open_named s args.stateid)
+-- the stateid as it is changed: its seqid goes on by one
+abbrev pub next_stateid : ℕ → OpenRow → StateId
+next_stateid fs row = record { seqid = next_seqid row.seqid; fs = fs; counter = row.counter }
 
--- the stateid as it is closed: its seqid goes on by one
-abbrev pub closed_stateid : ℕ → Option OpenRow → Option StateId
-closed_stateid fs None = None
-closed_stateid fs (Some row) = Some (record { seqid = next_seqid row.seqid; fs = fs; counter = row.counter })
+-- the value of an OK of CLOSE, OPEN_CONFIRM and OPEN_DOWNGRADE
+unfoldable pub changed_stateid : Seen → StateRef → Option StateId
+changed_stateid s stateid = option_map (next_stateid s.fs) (open_named s stateid)
 
--- the value of an OK of CLOSE
-unfoldable pub close_value : Seen → CloseArgs → Option StateId
-close_value s args = closed_stateid s.fs (open_named s args.stateid)
+-- ---- OPEN_CONFIRM
+
+unfoldable pub confirm_checks : Seen → Option Party → ℕ → OpenConfirmArgs → Verdict → Checks
+confirm_checks s caller file args verdict = record nothing_stops {
+  unresolved = unresolved_at caller (resolved s args.stateid);
+  seqid = owner_stop_at s (resolved s args.stateid) args.seqid caller file (deed.OpenConfirm args);
+  lease = lease_stop verdict;
+  missing = missing_stop (current s file);
+  kind = refuse_if (is_dir (current s file)) IsDir;
+  stale = confirm_stop s file args.stateid (open_named s args.stateid);
+}
+
+-- ---- OPEN_DOWNGRADE
+
+-- all that the one has, the other has too
+abbrev pub is_within : ℕ → ℕ → Bool
+is_within part whole = bit_or part whole == whole
+
+-- Access is 1 to 3 and deny 0 to 3; those of a live open are at most what it has.
+unfoldable pub is_narrower : ℕ → ℕ → Option OpenRow → Bool
+is_narrower access deny None = is_share access deny
+is_narrower access deny (Some row) = is_share access deny && is_within access row.access && is_within deny row.deny
+
+unfoldable pub downgrade_checks : Seen → Option Party → ℕ → OpenDowngradeArgs → Verdict → Checks
+downgrade_checks s caller file args verdict = record nothing_stops {
+  unresolved = unresolved_at caller (resolved s args.stateid);
+  seqid = owner_stop_at s (resolved s args.stateid) args.seqid caller file (deed.OpenDowngrade args);
+  lease = lease_stop verdict;
+  missing = missing_stop (current s file);
+  arguments = refuse_if (not (is_narrower args.access args.deny (open_named s args.stateid))) Inval;
+  stale = live_stop s file args.stateid 0 (open_named s args.stateid);
+}

@@ -1,18 +1,22 @@
 -- The server that never moves: a file system is the list of what was asked of it, each with its reply. What stands now
 -- is read off that list.
-use Rattle.std.specs.Prelude.{ℕ, ◌+◌, ◌==◌, Bool, true, false, List, [], ◌∷◌, Option, Some, None, is_none, replicate, unwrap_or, if◌then◌else◌}
+use Rattle.std.specs.Prelude.{ℕ, ◌+◌, ◌==◌, ◌||◌, Bool, true, false, List, [], ◌∷◌, Option, Some, None, is_none, option_map, replicate, unwrap_or, if◌then◌else◌}
+use Rattle.std.specs.Option.{option_or}
 use Rattle.nm_rules.specs.Lists.{is_empty}
 use Rattle.nm_rules.specs.Attributes.{Asks, asks_of, asked_size, asked_mode}
 use Rattle.nm_rules.specs.Contents.{TreeWord, file_at, root_row, file_left, child_left, last_file_left, change_left, taken}
 use Rattle.nm_rules.specs.Contents.TreeWord.{Untouched, Made, Edited, Removed}
 use Rattle.nm_rules.specs.Contents.FileEdit.{Wrote, Set}
 use Rattle.nm_rules.specs.Parties.{Party}
-use Rattle.nm_rules.specs.Shares.{OpenWord, open_left, opened_row}
+use Rattle.nm_rules.specs.Seqids.{OwnerWord, advances, seqid_of, judged, is_fresh, is_confirmed, without_recalls, owner_left, closed_after}
+use Rattle.nm_rules.specs.Seqids.OwnerWord.{Stays, Noted, GoneOf}
+use Rattle.nm_rules.specs.Shares.{OpenWord, open_at, open_left, opened_row, renewed_row, narrowed_row, put_if}
 use Rattle.nm_rules.specs.Shares.OpenWord.{Keep, Put, Drop, DropOf}
 use Rattle.nm_rules.specs.declared.args.Claim.{Claim}
 use Rattle.nm_rules.specs.declared.args.Claim.TheVariants.{Null, Previous, DelegateCur, DelegatePrev}
 use Rattle.nm_rules.specs.declared.args.CreateArgs.{CreateArgs}
 use Rattle.nm_rules.specs.declared.args.OpenArgs.{OpenArgs}
+use Rattle.nm_rules.specs.declared.args.OpenDowngradeArgs.{OpenDowngradeArgs}
 use Rattle.nm_rules.specs.declared.args.OpenType.{OpenType}
 use Rattle.nm_rules.specs.declared.args.OpenType.TheVariants.{NoCreate, Unchecked, Guarded, Exclusive}
 use Rattle.nm_rules.specs.declared.args.RemoveArgs.{RemoveArgs}
@@ -29,6 +33,11 @@ use Rattle.nm_rules.specs.declared.calls.Entry.{Entry}
 use Rattle.nm_rules.specs.declared.calls.Reply.{Reply}
 use Rattle.nm_rules.specs.declared.calls.ReplyValue.{ReplyValue}
 use Rattle.nm_rules.specs.declared.calls.ReplyValue.TheVariants as told
+use Rattle.nm_rules.specs.declared.calls.StateRef.{StateRef}
+use Rattle.nm_rules.specs.declared.calls.StateRef.TheVariants.{Zeros, Ones, Named}
+use Rattle.nm_rules.specs.declared.owners.Judgement.{Judgement}
+use Rattle.nm_rules.specs.declared.owners.Judgement.TheVariants.{Fresh}
+use Rattle.nm_rules.specs.declared.owners.OwnerRow.{OwnerRow}
 use Rattle.nm_rules.specs.declared.results.Opened.{Opened}
 use Rattle.nm_rules.specs.declared.rows.FileKind.TheVariants.{File, Directory}
 use Rattle.nm_rules.specs.declared.rows.FileRow.{FileRow}
@@ -42,30 +51,47 @@ abbrev pub Past : Type 0
 Past = List Entry
 
 -- What stands now, by keys: a file by its number, a number by a name in a directory, a live open by the counter of its
--- stateid.
+-- stateid, what is kept of an owner that is known by the owner; and the opens whose CLOSE is their owner's kept call.
 pub record Now : Type 0 where
   pub file_by : ℕ → Option FileRow
   pub child_by : ℕ → List ℕ → Option ℕ
   pub open_by : ℕ → Option OpenRow
+  pub owner_by : Owner → Option OwnerRow
+  pub closed : List OpenRow
   -- the last stateid's counter, the last file's number and the last change's
   pub last : ℕ
   pub last_file : ℕ
   pub change : ℕ
 
--- What a seqid says of a call (RFC 7530, 9.1.7).
-pub data Judged : Type 0 where
-  Fresh : Judged
-  Again : Judged
-  Bad : Judged
+-- the owner that opens, where the call names a caller
+abbrev pub opener : Party → OpenArgs → Owner
+opener party args = record { instance = party; kind = Opens; text = args.owner }
 
--- Owners' seqids aren't kept yet: each counts as the next one.
-abbrev pub judgement : Now → Call → Judged
-judgement n call = Fresh
+-- A stateid names a live open, or one whose CLOSE is its owner's kept call.
+unfoldable pub named_by : Now → StateRef → Option OpenRow
+named_by n Zeros = None
+named_by n Ones = None
+named_by n (Named id) = option_or (n.open_by id.counter) (open_at id.counter n.closed)
 
-abbrev pub is_fresh : Judged → Bool
-is_fresh Fresh = true
-is_fresh Again = false
-is_fresh Bad = false
+abbrev pub owner_named : Now → StateRef → Option Owner
+owner_named n stateid = option_map (λ row. row.owner) (named_by n stateid)
+
+-- The owner for which an operation with a seqid is asked: that of an OPEN, and that of the open which a stateid names. The
+-- other operations have none.
+unfoldable pub seqid_owner : Now → Option Party → Deed → Option Owner
+seqid_owner n caller (deed.Close args) = owner_named n args.stateid
+seqid_owner n caller (deed.Open args) = option_map (λ party. opener party args) caller
+seqid_owner n caller (deed.OpenConfirm args) = owner_named n args.stateid
+seqid_owner n caller (deed.OpenDowngrade args) = owner_named n args.stateid
+seqid_owner n caller _ = None
+
+-- What a call's seqid says of it. A call without one is always fresh.
+unfoldable pub judgement_for : Now → Call → Option Owner → Judgement
+judgement_for n call None = Fresh
+judgement_for n call (Some owner) = judged (n.owner_by owner) (seqid_of call.deed) call.caller call.file call.deed
+
+abbrev pub judgement : Now → Call → Judgement
+judgement n call = judgement_for n call (seqid_owner n call.caller call.deed)
 
 unfoldable pub is_done : OpStatus → Bool
 is_done Nfs4Ok = true
@@ -81,9 +107,10 @@ pub record Words : Type 0 where
   pub opens : OpenWord
   -- a stateid was made
   pub drew : Bool
+  pub owners : OwnerWord
 
 abbrev pub no_words : Words
-no_words = record { tree = Untouched; opens = Keep; drew = false }
+no_words = record { tree = Untouched; opens = Keep; drew = false; owners = Stays }
 
 -- ---- OPEN and CLOSE
 
@@ -147,10 +174,6 @@ open_tree row dir name opentype None number = Made (new_file number dir (unwrap_
 open_tree row dir name opentype (Some child) number =
     if cuts opentype then Edited (parent_of row) number (Set (Some 0) None) else Untouched
 
--- the owner that opens, where the call names a caller
-abbrev pub opener : Party → OpenArgs → Owner
-opener party args = record { instance = party; kind = Opens; text = args.owner }
-
 -- An OPEN that acted puts its owner's open, and makes the file where its name wasn't there.
 abbrev pub opened_words : Now → Party → ℕ → OpenArgs → Opened → Words
 opened_words n party file args opened = record {
@@ -158,6 +181,7 @@ opened_words n party file args opened = record {
       (claimed_in n.child_by file (claimed_name args.claim)) opened.file;
   opens = Put (opened_row (n.open_by opened.ok.stateid.counter) opened.ok.stateid.counter opened.file (opener party args) args.access args.deny);
   drew = is_none (n.open_by opened.ok.stateid.counter);
+  owners = Stays;
 }
 
 abbrev pub open_words : Now → Option Party → ℕ → OpenArgs → ReplyValue → Words
@@ -169,6 +193,19 @@ open_words n None file args value = no_words
 abbrev pub close_words : ReplyValue → Words
 close_words (told.Close (Some id)) = record no_words { opens = Drop id.counter }
 close_words _ = no_words
+
+-- ---- OPEN_CONFIRM and OPEN_DOWNGRADE
+
+-- An OPEN_CONFIRM that acted raises the seqid of the stateid that it answers.
+abbrev pub confirm_words : Now → ReplyValue → Words
+confirm_words n (told.OpenConfirm (Some id)) = record no_words { opens = put_if (option_map renewed_row (n.open_by id.counter)) }
+confirm_words n _ = no_words
+
+-- An OPEN_DOWNGRADE that acted leaves the access and the deny that it asks for.
+abbrev pub downgrade_words : Now → OpenDowngradeArgs → ReplyValue → Words
+downgrade_words n args (told.OpenDowngrade (Some id)) =
+    record no_words { opens = put_if (option_map (narrowed_row args.access args.deny) (n.open_by id.counter)) }
+downgrade_words n args _ = no_words
 
 -- ---- names and data
 
@@ -225,16 +262,52 @@ deed_words n caller file (deed.GetAttr _) value = no_words
 deed_words n caller file (deed.Lookup _) value = no_words
 deed_words n caller file deed.LookupP value = no_words
 deed_words n caller file (deed.Open args) value = open_words n caller file args value
+deed_words n caller file (deed.OpenConfirm _) value = confirm_words n value
+deed_words n caller file (deed.OpenDowngrade args) value = downgrade_words n args value
 deed_words n caller file (deed.Read _) value = no_words
 deed_words n caller file (deed.ReadDir _) value = no_words
 deed_words n caller file (deed.Remove args) value = remove_words file args value
 deed_words n caller file (deed.SetAttr args) value = setattr_words n file args value
 deed_words n caller file (deed.Write args) value = write_words n file args value
 
--- Only an entry that acts changes anything. With its instance's end all that an owner holds goes.
+-- ---- what is kept of an owner
+
+unfoldable pub confirms : Deed → Bool
+confirms (deed.OpenConfirm _) = true
+confirms _ = false
+
+-- what is kept of an owner that the call moves on
+abbrev pub noted_row : Now → Owner → Call → Reply → OwnerRow
+noted_row n owner call r = record {
+  owner = owner;
+  seqid = seqid_of call.deed;
+  confirmed = is_confirmed (n.owner_by owner) || (if confirms call.deed then is_done r.status else false);
+  call = call;
+  reply = without_recalls r;
+}
+
+-- the open that a CLOSE which acted has closed, as it was told
+unfoldable pub closed_by : Now → Deed → ReplyValue → Option OpenRow
+closed_by n (deed.Close _) (told.Close (Some id)) = option_map renewed_row (n.open_by id.counter)
+closed_by n _ _ = None
+
+-- An operation with a seqid moves its owner on with every status that advances.
+unfoldable pub noted : Now → Call → Reply → Option Owner → OwnerWord
+noted n call r None = Stays
+noted n call r (Some owner) = if advances r.status then Noted (noted_row n owner call r) (closed_by n call.deed r.value) else Stays
+
+abbrev pub owner_word : Now → Call → Reply → OwnerWord
+owner_word n call r = if is_fresh (judgement n call) then noted n call r (seqid_owner n call.caller call.deed) else Stays
+
+-- Only an entry that acts changes what is there and held. A fresh one moves its owner on, and one that came before changes
+-- nothing. With its instance's end all that an owner holds goes.
+abbrev pub with_owners : Words → OwnerWord → Words
+with_owners w word = record w { owners = word }
+
 unfoldable pub words : Now → Event → Reply → Words
-words n (Asked call verdict) r = if acts n call r then deed_words n call.caller call.file call.deed r.value else no_words
-words n (Ended party) r = record no_words { opens = DropOf party }
+words n (Asked call verdict) r =
+    with_owners (if acts n call r then deed_words n call.caller call.file call.deed r.value else no_words) (owner_word n call r)
+words n (Ended party) r = record no_words { opens = DropOf party; owners = GoneOf party }
 
 -- What the words leave of what stood. A change of the tree has the next number.
 unfoldable pub left : Now → Words → Now
@@ -242,17 +315,21 @@ left n w = record {
   file_by = λ k. file_left w.tree (n.change + 1) k (n.file_by k);
   child_by = λ dir name. child_left w.tree dir name (n.child_by dir name);
   open_by = λ k. open_left w.opens k (n.open_by k);
+  owner_by = λ owner. owner_left w.owners owner (n.owner_by owner);
+  closed = closed_after w.owners n.closed;
   last = if w.drew then n.last + 1 else n.last;
   last_file = last_file_left w.tree n.last_file;
   change = change_left w.tree n.change;
 }
 
--- Before the first entry there is the root alone.
+-- Before the first entry there is the root alone, and no owner is known.
 abbrev pub nothing_yet : Now
 nothing_yet = record {
   file_by = λ k. file_at k (root_row ∷ []);
   child_by = λ dir name. None;
   open_by = λ _. None;
+  owner_by = λ _. None;
+  closed = [];
   last = 0;
   last_file = 15;
   change = 0;

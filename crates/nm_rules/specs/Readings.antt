@@ -6,13 +6,13 @@ use Rattle.nm_rules.specs.Shares.{is_open_of, open_of, shares_conflict}
 use Rattle.nm_rules.specs.Past.{Past, Now, now, acts, opener}
 use Rattle.nm_rules.specs.declared.args.OpenArgs.{OpenArgs}
 use Rattle.nm_rules.specs.declared.calls.Deed.{Deed}
-use Rattle.nm_rules.specs.declared.calls.Deed.TheVariants.{Open, Close}
+use Rattle.nm_rules.specs.declared.calls.Deed.TheVariants.{Open, OpenDowngrade, Close}
 use Rattle.nm_rules.specs.declared.calls.Owner.{Owner}
 use Rattle.nm_rules.specs.declared.calls.Event.{Event}
 use Rattle.nm_rules.specs.declared.calls.Event.TheVariants.{Asked, Ended}
 use Rattle.nm_rules.specs.declared.calls.Reply.{Reply}
 use Rattle.nm_rules.specs.declared.calls.ReplyValue.{ReplyValue}
-use Rattle.nm_rules.specs.declared.calls.ReplyValue.TheVariants.{Open as OpenReply, Close as CloseReply}
+use Rattle.nm_rules.specs.declared.calls.ReplyValue.TheVariants.{Open as OpenReply, OpenDowngrade as DowngradeReply, Close as CloseReply}
 use Rattle.nm_rules.specs.declared.rows.OpenRow.{OpenRow}
 
 -- an access and a deny
@@ -49,9 +49,20 @@ abbrev pub takes_share : Now → Owner → ℕ → Event → Reply → Bool
 takes_share n owner file (Ended party) r = false
 takes_share n owner file (Asked call verdict) r = if acts n call r then opens owner file call.caller call.deed r.value else false
 
--- what an OPEN asks for; nothing else asks for a share
+-- An OPEN_DOWNGRADE that acted narrowed the open of this owner on this file.
+abbrev pub narrows : Now → Owner → ℕ → Deed → ReplyValue → Bool
+narrows n owner file (OpenDowngrade args) (DowngradeReply (Some id)) = names_open_of owner file (n.open_by id.counter)
+narrows n owner file _ _ = false
+
+-- With this entry the owner's share of the file becomes what was asked.
+abbrev pub sets_share : Now → Owner → ℕ → Event → Reply → Bool
+sets_share n owner file (Ended party) r = false
+sets_share n owner file (Asked call verdict) r = if acts n call r then narrows n owner file call.deed r.value else false
+
+-- what an OPEN or an OPEN_DOWNGRADE asks for; nothing else asks for a share
 abbrev pub deed_share : Deed → Share
 deed_share (Open args) = record { access = args.access; deny = args.deny }
+deed_share (OpenDowngrade args) = record { access = args.access; deny = args.deny }
 deed_share _ = record { access = 0; deny = 0 }
 
 abbrev pub asked_share : Event → Share
@@ -63,15 +74,17 @@ abbrev pub joined : Option Share → Share → Option Share
 joined None share = Some share
 joined (Some before) share = Some (record { access = bit_or before.access share.access; deny = bit_or before.deny share.deny })
 
--- The share of an owner on a file: those of its OPENs that acted since its latest CLOSE that acted, or its client's
--- latest end, joined. None where there is no such OPEN (RFC 7530, 9.9 and 16.16).
+-- The share of an owner on a file: that of its latest OPEN_DOWNGRADE that acted, joined with those of its OPENs that acted
+-- later; or those of all its OPENs that acted, where there was none; since its latest CLOSE that acted, or its client's latest
+-- end. None where there is no such OPEN (RFC 7530, 9.9, 16.16 and 16.19).
 unfoldable pub share_of : Past → Owner → ℕ → Option Share
 share_of [] owner file = None
 share_of (x ∷ earlier) owner file =
     if ends_share (now earlier) owner file x.event x.reply then None
     else (if takes_share (now earlier) owner file x.event x.reply
     then joined (share_of earlier owner file) (asked_share x.event)
-    else share_of earlier owner file)
+    else (if sets_share (now earlier) owner file x.event x.reply then Some (asked_share x.event)
+    else share_of earlier owner file))
 
 -- no share at all, or two that don't conflict
 abbrev pub AreCompatible : Option Share → Option Share → Type 0

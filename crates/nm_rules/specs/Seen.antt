@@ -1,10 +1,12 @@
 -- The tables of a file system, under the same words of change as what stands now.
 use Rattle.std.specs.Prelude.{ℕ, ◌+◌, Bool, List, [], ◌∷◌, if◌then◌else◌}
 use Rattle.nm_rules.specs.Contents.{TreeNow, empty_tree, file_at, child_at, tree_after}
+use Rattle.nm_rules.specs.Seqids.{owner_at, owners_after, closed_after}
 use Rattle.nm_rules.specs.Shares.{open_at, opens_after}
 use Rattle.nm_rules.specs.Past.{Past, Now, Words, words}
 use Rattle.nm_rules.specs.declared.calls.Event.{Event}
 use Rattle.nm_rules.specs.declared.calls.Reply.{Reply}
+use Rattle.nm_rules.specs.declared.owners.OwnerRow.{OwnerRow}
 use Rattle.nm_rules.specs.declared.rows.OpenRow.{OpenRow}
 
 -- A file system: its number and whether it grants delegations, which never change, and its tables.
@@ -13,12 +15,16 @@ pub record Seen : Type 0 where
   pub grants : Bool
   pub tree : TreeNow
   pub opens : List OpenRow
+  -- what is kept of the owners that are known
+  pub owners : List OwnerRow
+  -- the opens whose CLOSE is their owner's kept call, as they were closed
+  pub closed : List OpenRow
   -- the counter of the last stateid that was made
   pub last : ℕ
 
--- Before the first entry there is no file but the root, and nothing is held.
+-- Before the first entry there is no file but the root, nothing is held, and no owner is known.
 abbrev pub empty : ℕ → Bool → Seen
-empty fs grants = record { fs = fs; grants = grants; tree = empty_tree; opens = []; last = 0 }
+empty fs grants = record { fs = fs; grants = grants; tree = empty_tree; opens = []; owners = []; closed = []; last = 0 }
 
 -- what stands, read off the tables
 unfoldable pub look : Seen → Now
@@ -26,6 +32,8 @@ look s = record {
   file_by = λ number. file_at number s.tree.table;
   child_by = λ dir name. child_at dir name s.tree.table;
   open_by = λ counter. open_at counter s.opens;
+  owner_by = λ owner. owner_at owner s.owners;
+  closed = s.closed;
   last = s.last;
   last_file = s.tree.last_file;
   change = s.tree.change;
@@ -35,6 +43,8 @@ unfoldable pub after_words : Seen → Words → Seen
 after_words s w = record s {
   tree = tree_after w.tree s.tree;
   opens = opens_after w.opens s.opens;
+  owners = owners_after w.owners s.owners;
+  closed = closed_after w.owners s.closed;
   last = if w.drew then s.last + 1 else s.last;
 }
 

@@ -45,6 +45,14 @@ opened_row None counter file owner access deny =
 opened_row (Some row) counter file owner access deny =
     record row { seqid = next_seqid row.seqid; access = bit_or row.access access; deny = bit_or row.deny deny }
 
+-- An open whose stateid is confirmed or closed: its seqid goes on by one.
+abbrev pub renewed_row : OpenRow → OpenRow
+renewed_row row = record row { seqid = next_seqid row.seqid }
+
+-- An OPEN_DOWNGRADE leaves that access and deny (RFC 7530, 16.19).
+abbrev pub narrowed_row : ℕ → ℕ → OpenRow → OpenRow
+narrowed_row access deny row = record row { seqid = next_seqid row.seqid; access = access; deny = deny }
+
 -- How the table of opens changes.
 pub data OpenWord : Type 0 where
   Keep : OpenWord
@@ -58,6 +66,11 @@ pub data OpenWord : Type 0 where
 abbrev pub put_open : OpenRow → List OpenRow → List OpenRow
 put_open row [] = row ∷ []
 put_open row (x ∷ xs) = if x.counter == row.counter then row ∷ xs else x ∷ put_open row xs
+
+-- the row, where there is one
+abbrev pub put_if : Option OpenRow → OpenWord
+put_if None = Keep
+put_if (Some row) = Put row
 
 unfoldable pub opens_after : OpenWord → List OpenRow → List OpenRow
 opens_after Keep rows = rows

@@ -4,7 +4,7 @@ ghost use Rattle.nm_rules.specs.Actions.{verb_of, fs_of};
 
 use crate::{Bytes, FsNum, Memory};
 
-/// An open of a file, by an owner.
+/// An open of a file by an owner, or what is left of it.
 #[derive(Debug, PartialEq, Eq, Drop)]
 pub struct OpenAction {
     pub fs: FsNum,
@@ -166,6 +166,8 @@ pub enum Action {
     Create(OpenAction),
     /// Closes what the owner has open.
     Close(CloseAction),
+    /// Narrows what the owner has open to that access and deny.
+    Downgrade(OpenAction),
     /// Reads what the owner has open.
     Read(ReadAction),
     /// Writes to what the owner has open.
@@ -186,6 +188,7 @@ pub enum Verb {
     Open,
     Create,
     Close,
+    Downgrade,
     Read,
     Write,
     Size,
@@ -203,6 +206,7 @@ impl Action {
             Action::Open(_) => Verb::Open,
             Action::Create(_) => Verb::Create,
             Action::Close(_) => Verb::Close,
+            Action::Downgrade(_) => Verb::Downgrade,
             Action::Read(_) => Verb::Read,
             Action::Write(_) => Verb::Write,
             Action::Size(_) => Verb::Size,
@@ -217,7 +221,7 @@ impl Action {
         ensures { result ≡ fs_of self.now }
     {
         match self {
-            Action::Open(a) | Action::Create(a) => a.fs,
+            Action::Open(a) | Action::Create(a) | Action::Downgrade(a) => a.fs,
             Action::Close(a) => a.fs,
             Action::Read(a) => a.fs,
             Action::Write(a) => a.fs,
@@ -235,6 +239,7 @@ impl Action {
             Action::Open(a) => Action::Open(a.copy()?),
             Action::Create(a) => Action::Create(a.copy()?),
             Action::Close(a) => Action::Close(a.copy()?),
+            Action::Downgrade(a) => Action::Downgrade(a.copy()?),
             Action::Read(a) => Action::Read(a.copy()?),
             Action::Write(a) => Action::Write(a.copy()?),
             Action::Size(a) => Action::Size(a.copy()?),

@@ -4,8 +4,8 @@ ghost use Rattle.nm_rules.specs.Owners.{same_owner};
 
 use crate::{
     AccessArgs, AccessOk, Bytes, ChangeInfo, CloseArgs, CommitArgs, CreateArgs, Created,
-    GetAttrArgs, GetAttrOk, Instance, Items, LookupArgs, Memory, OpStatus, OpenArgs, Opened,
-    ReadArgs, ReadDirArgs, ReadDirOk, ReadOk, RemoveArgs, SetAttrArgs, Words, WriteArgs, WriteOk,
+    GetAttrArgs, GetAttrOk, Instance, Items, LookupArgs, Memory, OpStatus, OpenArgs,
+    OpenConfirmArgs, OpenDowngradeArgs, Opened, ReadArgs, ReadDirArgs, ReadDirOk, ReadOk, RemoveArgs, SetAttrArgs, Words, WriteArgs, WriteOk,
 };
 
 /// What an owner owns (RFC 7530, 9.1.4): opens, or byte-range locks.
@@ -77,6 +77,8 @@ pub enum Deed {
     Lookup(LookupArgs),
     LookupP,
     Open(OpenArgs),
+    OpenConfirm(OpenConfirmArgs),
+    OpenDowngrade(OpenDowngradeArgs),
     Read(ReadArgs),
     ReadDir(ReadDirArgs),
     Remove(RemoveArgs),
@@ -140,6 +142,10 @@ pub enum ReplyValue {
     /// The file that becomes the current one.
     LookupP(Option<u64>),
     Open(Option<Opened>),
+    /// The stateid as it was confirmed.
+    OpenConfirm(Option<StateId>),
+    /// The stateid as it was narrowed.
+    OpenDowngrade(Option<StateId>),
     Read(Option<ReadOk>),
     ReadDir(Option<ReadDirOk>),
     /// The change numbers of the directory.

@@ -185,6 +185,8 @@ impl Deed {
             Deed::Lookup(args) => Deed::Lookup(args.copy()?),
             Deed::LookupP => Deed::LookupP,
             Deed::Open(args) => Deed::Open(args.copy()?),
+            Deed::OpenConfirm(args) => Deed::OpenConfirm(*args),
+            Deed::OpenDowngrade(args) => Deed::OpenDowngrade(*args),
             Deed::Read(args) => Deed::Read(*args),
             Deed::ReadDir(args) => Deed::ReadDir(args.copy()?),
             Deed::Remove(args) => Deed::Remove(args.copy()?),

@@ -42,6 +42,11 @@ impl<T> Items<T> {
         Ok(self.items.push(item)?)
     }
 
+    // The allocator of its memory.
+    pub(crate) fn allocator(&self) -> Global {
+        *self.items.allocator()
+    }
+
     /// The items, in order.
     pub fn items(&self) -> &[T]
         ensures { result.now ≡ self.now }

@@ -4,7 +4,9 @@ ghost use Rattle.std.specs.Prelude.{◌≡◌, ◌≢◌, ◌≤◌, ◌+◌, �
 ghost use Rattle.nm_rules.specs.Contents.{file_at};
 ghost use Rattle.nm_rules.specs.FileReadings.{IsRead};
 ghost use Rattle.nm_rules.specs.declared.rows.FileRow.{FileRow as AnyRow};
-ghost use Rattle.nm_rules.specs.Past.{Past, now};
+ghost use Rattle.nm_rules.specs.OwnerReadings.{owner_now};
+ghost use Rattle.nm_rules.specs.Past.{Past, now, judgement};
+ghost use Rattle.nm_rules.specs.Seqids.{owner_at};
 ghost use Rattle.nm_rules.specs.Seen.{Seen, seen, look, after};
 ghost use Rattle.nm_rules.specs.Answer.{IsLegal};
 ghost use Rattle.nm_rules.specs.Sound.{IsSound};
@@ -12,7 +14,11 @@ ghost use Rattle.nm_rules.specs.Parties.{Party};
 ghost use Rattle.nm_rules.specs.Holders.{holders, has_row, is_among, parties_rise};
 ghost use Rattle.nm_rules.specs.Readings.{share_of, share_in, AreCompatible};
 ghost use Rattle.nm_rules.specs.declared.calls.Owner.{Owner as AnyOwner};
+ghost use Rattle.nm_rules.specs.declared.calls.Call.{Call as AnyCall};
 ghost use Rattle.nm_rules.specs.declared.calls.Event.{Event as AnyEvent};
+ghost use Rattle.nm_rules.specs.declared.calls.Event.TheVariants.{Asked};
+ghost use Rattle.nm_rules.specs.declared.calls.Verdict.{Verdict as AnyVerdict};
+ghost use Rattle.nm_rules.specs.declared.owners.Judgement.TheVariants.{Again};
 ghost use Rattle.nm_rules.specs.declared.calls.Reply.{Reply as AnyReply};
 
 /// No two owners hold conflicting shares of a file (RFC 7530, 9.9): what one does is never what the other denies.
@@ -38,17 +44,33 @@ pub fn legal_tables_are_sound()
     ensures { (fs : ℕ) (grants : Bool) (es : Past) → IsLegal fs grants es → IsSound (seen fs grants es) }
 {}
 
-/// The list of holders rises, so that none stands in it twice, and an instance is in it exactly where it has a row.
+/// The list of holders rises, so that none stands in it twice, and an instance is in it exactly where it has a row: an owner
+/// of it is known, or an open of it is live.
 pub fn holders_have_rows()
     ensures rise { (s : Seen) → parties_rise (holders s) ≡ true }
     ensures exact { (s : Seen) (party : Party) → is_among party (holders s) ≡ has_row party s }
 {}
 
-/// There are no more holders than rows, and an event adds at most one row. So room for one more than there are rows is
-/// room for the holders after the next event.
-pub fn rows_grow_by_one()
-    ensures fit { (s : Seen) → length (holders s) ≤ length s.opens }
-    ensures grow { (s : Seen) (event : AnyEvent) (reply : AnyReply) → length (after s event reply).opens ≤ length s.opens + 1 }
+/// There are no more holders than opens and owners, and an event adds at most one of each. So room for two more than there are
+/// is room for the holders after the next event.
+pub fn rows_grow_by_two()
+    ensures fit { (s : Seen) → length (holders s) ≤ length s.opens + length s.owners }
+    ensures grow { (s : Seen) (event : AnyEvent) (reply : AnyReply)
+        → length (after s event reply).opens + length (after s event reply).owners ≤ length s.opens + length s.owners + 2 }
+{}
+
+/// An operation whose seqid says that it came before changes nothing (RFC 7530, 9.1.7), whatever it is answered.
+pub fn repeats_change_nothing()
+    ensures { (s : Seen) (call : AnyCall) (verdict : AnyVerdict) (reply : AnyReply)
+        → judgement (look s) call ≡ Again → after s (Asked call verdict) reply ≡ s }
+{}
+
+/// The table of owners keeps of each owner what the entries tell: the seqid, the call and the reply of its latest fresh
+/// operation whose status moves it on, since its client's latest end (RFC 7530, 9.1.7), and whether an OPEN_CONFIRM of it was
+/// carried out since then (16.18). An owner is known exactly where there is such an operation.
+pub fn owners_are_kept_as_noted()
+    ensures { (fs : ℕ) (grants : Bool) (es : Past) → IsLegal fs grants es
+        → (owner : AnyOwner) → owner_at owner (seen fs grants es).owners ≡ owner_now es owner }
 {}
 
 /// The tree says of each file what the entries say: its bytes are those of the latest WRITEs that cover them since it was

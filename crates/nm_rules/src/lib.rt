@@ -11,6 +11,9 @@ mod items;
 mod laws;
 mod memory;
 mod numbers;
+mod owners;
+mod repeats;
+mod replies;
 mod results;
 mod rows;
 mod status;
@@ -36,11 +39,13 @@ pub use cause::Cause;
 pub use instance::{Instance, NameFault, Principal};
 pub use items::{Bytes, Items};
 pub use laws::{
-    files_read_as_written, holders_have_rows, legal_tables_are_sound, rows_grow_by_one,
-    shares_never_conflict, tables_keep_shares, tables_show_what_stands,
+    files_read_as_written, holders_have_rows, legal_tables_are_sound, owners_are_kept_as_noted,
+    repeats_change_nothing, rows_grow_by_two, shares_never_conflict, tables_keep_shares,
+    tables_show_what_stands,
 };
 pub use memory::{Memory, Refusal};
 pub use numbers::{Epoch, Era, FsNum, MoveNum, ServerNum};
+pub use owners::{Judgement, OwnerRow};
 pub use results::{
     AccessOk, ChangeInfo, CreateOk, Created, DirEntry, FileAttrs, GetAttrOk, LockKind,
     OpenDelegation, OpenOk, Opened, ReadDirOk, ReadOk, WriteOk,

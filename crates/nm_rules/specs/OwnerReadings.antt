@@ -1,0 +1,56 @@
+-- What is known of an owner, in the standard's words, read off the entries alone (RFC 7530, 9.1.7 and 16.18).
+use Rattle.std.specs.Prelude.{ℕ, Bool, true, false, List, [], ◌∷◌, Option, Some, None, if◌then◌else◌}
+use Rattle.nm_rules.specs.Parties.{Party, same_party}
+use Rattle.nm_rules.specs.Owners.{same_owner}
+use Rattle.nm_rules.specs.Seqids.{advances, seqid_of, is_fresh, without_recalls}
+use Rattle.nm_rules.specs.Past.{Past, Now, now, acts, judgement, seqid_owner, confirms}
+use Rattle.nm_rules.specs.declared.calls.Call.{Call}
+use Rattle.nm_rules.specs.declared.calls.Event.{Event}
+use Rattle.nm_rules.specs.declared.calls.Event.TheVariants.{Asked, Ended}
+use Rattle.nm_rules.specs.declared.calls.Owner.{Owner}
+use Rattle.nm_rules.specs.declared.calls.Reply.{Reply}
+use Rattle.nm_rules.specs.declared.owners.OwnerRow.{OwnerRow}
+
+abbrev pub is_owner : Owner → Option Owner → Bool
+is_owner owner None = false
+is_owner owner (Some its) = same_owner owner its
+
+-- The call was an operation of that owner which moved it on: it was fresh, and its status advances.
+unfoldable pub moves_on : Now → Owner → Call → Reply → Bool
+moves_on n owner call r =
+    if is_fresh (judgement n call)
+    then (if is_owner owner (seqid_owner n call.caller call.deed) then advances r.status else false)
+    else false
+
+-- an OPEN_CONFIRM that was carried out
+abbrev pub confirmed_by : Now → Call → Reply → Bool
+confirmed_by n call r = if confirms call.deed then acts n call r else false
+
+-- An OPEN_CONFIRM of the owner was carried out since its client's latest end.
+unfoldable pub was_confirmed : Past → Owner → Bool
+was_confirmed [] owner = false
+was_confirmed (x ∷ earlier) owner = was_confirmed_with (now earlier) x.event x.reply (was_confirmed earlier owner)
+  where
+    was_confirmed_with : Now → Event → Reply → Bool → Bool
+    was_confirmed_with n (Ended party) r before = if same_party party owner.instance then false else before
+    was_confirmed_with n (Asked call verdict) r before =
+        if moves_on n owner call r then (if confirmed_by n call r then true else before) else before
+
+-- The latest operation that moved the owner on, since its client's latest end: its seqid, the call and the reply, without
+-- delegations to recall. None where there is none: the owner isn't known.
+unfoldable pub owner_now : Past → Owner → Option OwnerRow
+owner_now [] owner = None
+owner_now (x ∷ earlier) owner = owner_with (now earlier) x.event x.reply (owner_now earlier owner)
+  where
+    owner_with : Now → Event → Reply → Option OwnerRow → Option OwnerRow
+    owner_with n (Ended party) r before = if same_party party owner.instance then None else before
+    owner_with n (Asked call verdict) r before =
+        if moves_on n owner call r
+        then Some (record {
+          owner = owner;
+          seqid = seqid_of call.deed;
+          confirmed = if confirmed_by n call r then true else was_confirmed earlier owner;
+          call = call;
+          reply = without_recalls r;
+        })
+        else before

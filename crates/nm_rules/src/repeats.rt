@@ -1,0 +1,92 @@
+//! Whether a call is the one that came before (RFC 7530, 9.1.7): caller, file and arguments are equal. Only operations
+//! with a seqid are compared.
+ghost use Rattle.std.specs.Prelude.{◌≡◌};
+ghost use Rattle.nm_rules.specs.Repeats.{is_close, is_confirm, is_downgrade, is_open, same_opentype, same_claim, same_deed, same_call};
+
+use crate::{Call, Claim, CloseArgs, Deed, OpenArgs, OpenConfirmArgs, OpenDowngradeArgs, OpenType};
+
+#[tactic(auto, unfolding(crate::specs::Repeats::is_close))]
+fn is_close(args: &CloseArgs, deed: &Deed) -> bool
+    ensures { result ≡ is_close args.now deed.now }
+{
+    match deed {
+        Deed::Close(kept) => args == kept,
+        _ => false,
+    }
+}
+
+fn is_same_opentype(a: &OpenType, b: &OpenType) -> bool
+    ensures { result ≡ same_opentype a.now b.now }
+{
+    a == b
+}
+
+fn is_same_claim(a: &Claim, b: &Claim) -> bool
+    ensures { result ≡ same_claim a.now b.now }
+{
+    a == b
+}
+
+#[tactic(auto, unfolding(crate::specs::Repeats::is_open))]
+fn is_open(args: &OpenArgs, deed: &Deed) -> bool
+    ensures { result ≡ is_open args.now deed.now }
+{
+    match deed {
+        Deed::Open(kept) => {
+            args.seqid == kept.seqid
+                && args.access == kept.access
+                && args.deny == kept.deny
+                && args.owner == kept.owner
+                && is_same_opentype(&args.opentype, &kept.opentype)
+                && is_same_claim(&args.claim, &kept.claim)
+        }
+        _ => false,
+    }
+}
+
+#[tactic(auto, unfolding(crate::specs::Repeats::is_confirm))]
+fn is_confirm(args: &OpenConfirmArgs, deed: &Deed) -> bool
+    ensures { result ≡ is_confirm args.now deed.now }
+{
+    match deed {
+        Deed::OpenConfirm(kept) => args == kept,
+        _ => false,
+    }
+}
+
+#[tactic(auto, unfolding(crate::specs::Repeats::is_downgrade))]
+fn is_downgrade(args: &OpenDowngradeArgs, deed: &Deed) -> bool
+    ensures { result ≡ is_downgrade args.now deed.now }
+{
+    match deed {
+        Deed::OpenDowngrade(kept) => args == kept,
+        _ => false,
+    }
+}
+
+impl Deed {
+    // Whether it is that operation, which was kept, with equal arguments.
+    #[tactic(auto, unfolding(crate::specs::Repeats::same_deed))]
+    fn repeats(&self, kept: &Deed) -> bool
+        ensures { result ≡ same_deed self.now kept.now }
+    {
+        match self {
+            Deed::Close(args) => is_close(args, kept),
+            Deed::Open(args) => is_open(args, kept),
+            Deed::OpenConfirm(args) => is_confirm(args, kept),
+            Deed::OpenDowngrade(args) => is_downgrade(args, kept),
+            _ => false,
+        }
+    }
+}
+
+impl Call {
+    /// Whether it is that call, which was kept: callers' instances, files, and the arguments of operations with a seqid are
+    /// equal. Other operations are never the same.
+    #[tactic(auto, unfolding(crate::specs::Repeats::same_call))]
+    pub fn repeats(&self, kept: &Call) -> bool
+        ensures { result ≡ same_call self.now.caller self.now.file self.now.deed kept.now }
+    {
+        self.caller == kept.caller && self.file == kept.file && self.deed.repeats(&kept.deed)
+    }
+}
