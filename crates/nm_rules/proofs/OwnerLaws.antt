@@ -50,7 +50,7 @@ step n owner call r = by_fresh (is_fresh (judgement n call)) refl
     confirmed = cond (confirmed_by n call r) true (is_confirmed before)
 
     by_status : (o : Owner) → is_fresh (judgement n call) ≡ true → (same b : Bool) → same_owner owner o ≡ same
-        → owner_left (cond b (Noted (noted_row n o call r) (closed_by n call.deed r.value)) Stays) owner before
+        → owner_left (cond b (Noted (noted_row (n.owner_by o) o (seqid_of call.deed) call r) (closed_by n call.deed r.value)) Stays) owner before
         ≡ cond (cond same b false) (Some (read_row confirmed owner call r)) before
     by_status o fresh true true its =
         rw its

@@ -276,12 +276,12 @@ unfoldable pub confirms : Deed → Bool
 confirms (deed.OpenConfirm _) = true
 confirms _ = false
 
--- what is kept of an owner that the call moves on
-abbrev pub noted_row : Now → Owner → Call → Reply → OwnerRow
-noted_row n owner call r = record {
+-- What is kept of an owner that a call moves on to this seqid, by what was kept before: once confirmed it stays so.
+abbrev pub noted_row : Option OwnerRow → Owner → ℕ → Call → Reply → OwnerRow
+noted_row before owner seqid call r = record {
   owner = owner;
-  seqid = seqid_of call.deed;
-  confirmed = is_confirmed (n.owner_by owner) || (if confirms call.deed then is_done r.status else false);
+  seqid = seqid;
+  confirmed = is_confirmed before || (if confirms call.deed then is_done r.status else false);
   call = call;
   reply = without_recalls r;
 }
@@ -294,7 +294,7 @@ closed_by n _ _ = None
 -- An operation with a seqid moves its owner on with every status that advances.
 unfoldable pub noted : Now → Call → Reply → Option Owner → OwnerWord
 noted n call r None = Stays
-noted n call r (Some owner) = if advances r.status then Noted (noted_row n owner call r) (closed_by n call.deed r.value) else Stays
+noted n call r (Some owner) = if advances r.status then Noted (noted_row (n.owner_by owner) owner (seqid_of call.deed) call r) (closed_by n call.deed r.value) else Stays
 
 abbrev pub owner_word : Now → Call → Reply → OwnerWord
 owner_word n call r = if is_fresh (judgement n call) then noted n call r (seqid_owner n call.caller call.deed) else Stays
