@@ -21,10 +21,6 @@ mod opens;
 mod operations;
 mod parts;
 mod reading;
-#[cfg(test)]
-mod tests;
-#[cfg(test)]
-mod vectors;
 mod writing;
 
 pub use compound::{ArgsFault, Compound, CompoundEnd};

@@ -5,4 +5,3 @@ pub mod MadeLaws
 pub mod MaskLaws
 pub mod RowLaws
 pub mod ValueLaws
-pub mod TestLaws

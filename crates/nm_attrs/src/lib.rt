@@ -14,8 +14,6 @@ mod bitmap;
 mod fault;
 mod laws;
 mod reading;
-#[cfg(test)]
-mod tests;
 mod values;
 mod writing;
 

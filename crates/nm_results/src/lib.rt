@@ -20,8 +20,6 @@ mod locks;
 mod opens;
 mod parts;
 mod reading;
-#[cfg(test)]
-mod tests;
 mod value_reading;
 mod value_writing;
 mod values;

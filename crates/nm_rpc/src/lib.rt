@@ -27,14 +27,8 @@ mod fault;
 mod headers;
 mod joined;
 mod message_laws;
-#[cfg(test)]
-mod message_tests;
-#[cfg(test)]
-mod name_tests;
 mod phase;
 mod pieces;
-#[cfg(test)]
-mod record_tests;
 mod records;
 mod replies;
 mod stream_laws;

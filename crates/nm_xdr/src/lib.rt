@@ -27,8 +27,6 @@
 mod cursor;
 mod fault;
 mod laws;
-#[cfg(test)]
-mod tests;
 mod writer;
 
 pub use cursor::Cursor;

@@ -1,4 +1,5 @@
-use super::*;
+//! The items of XDR (RFC 4506).
+use nm_xdr::*;
 use std::test::Fail;
 
 /// The file of the example in RFC 4506, section 7: its name, its kind 2 (an executable with its interpreter),

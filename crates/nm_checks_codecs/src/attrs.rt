@@ -1,7 +1,8 @@
+//! Attributes and bitmaps (RFC 7530, 5.6 to 5.8).
 ghost use Rattle.std.specs.Prelude.{IfOk};
 ghost use Rattle.nm_attrs.specs.Attributes.{AreAttrs};
 
-use super::*;
+use nm_attrs::*;
 use nm_rules::{Bytes, Items};
 use nm_xdr::{Cursor, Writer, XdrFault};
 use std::alloc::Global;
@@ -109,7 +110,7 @@ fn each_attribute_is_read_of_its_bytes(rt: HostRuntime) -> Result<(), Fail> {
 }
 
 /// A size of 5 and the mode 0644.
-#[tactic(auto, using(crate::proofs::TestLaws::size_and_mode_are))]
+#[tactic(auto, using(crate::proofs::AttrLaws::size_and_mode_are))]
 fn size_and_mode(alloc: Global) -> Result<Attrs, Fail>
     ensures { IfOk result (λ attrs. AreAttrs attrs) }
 {

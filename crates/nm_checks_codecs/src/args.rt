@@ -1,5 +1,6 @@
-use super::*;
+//! The arguments of operations (RFC 7530, 16).
 use crate::vectors::VECTORS;
+use nm_args::*;
 use std::alloc::Global;
 use std::test::Fail;
 
@@ -25,7 +26,7 @@ fn bytes_of(alloc: Global, digits: &str) -> Result<Vec<u8>, Fail> {
 }
 
 /// What is written of a compound that is read to a clean end.
-#[tactic(auto, using(crate::proofs::WholeLaws::compound_clean))]
+#[tactic(auto, using(nm_args::proofs::WholeLaws::compound_clean))]
 fn rewritten(alloc: Global, bytes: &[u8]) -> Result<Vec<u8>, Fail> {
     let compound = match read_compound(alloc, bytes) {
         Ok(compound) => compound,

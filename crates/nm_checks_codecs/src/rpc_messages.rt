@@ -1,4 +1,5 @@
-use super::*;
+//! Calls and replies of RPC (RFC 5531, 9).
+use nm_rpc::*;
 use nm_rules::{Bytes, Principal};
 use nm_xdr::{Writer, XdrFault};
 use std::alloc::Global;

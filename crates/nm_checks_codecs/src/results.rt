@@ -1,148 +1,12 @@
-use super::*;
+//! The results of operations (RFC 7530, 16).
+use crate::result_vectors::*;
+use nm_results::*;
 use nm_rules::{
     AccessOk, Bytes, ChangeInfo, CreateOk, Fattr, Items, LockKind, OpStatus, OpenDelegation,
     OpenOk, ReadOk, StateId, WriteOk,
 };
 use std::alloc::Global;
 use std::test::Fail;
-
-// The results that follow are what the codec of libnfs encodes (tools/result-vectors), each without the 16 bytes of the whole before it.
-
-const ACCESS: [u8; 16] = [0, 0, 0, 3, 0, 0, 0, 0, 0, 0, 0, 63, 0, 0, 0, 31];
-
-const COMMIT: [u8; 16] = [0, 0, 0, 5, 0, 0, 0, 0, 97, 98, 99, 100, 101, 102, 103, 104];
-
-const CREATE: [u8; 36] = [
-    0, 0, 0, 6, 0, 0, 0, 0, 0, 0, 0, 1, 0, 0, 0, 0, 0, 0, 0, 5, 0, 0, 0, 0, 0, 0, 0, 6, 0, 0, 0, 1,
-    0, 0, 0, 16,
-];
-
-const GETATTR: [u8; 28] = [
-    0, 0, 0, 9, 0, 0, 0, 0, 0, 0, 0, 1, 0, 0, 0, 16, 0, 0, 0, 8, 0, 0, 0, 0, 0, 0, 0, 9,
-];
-
-const GETFH: [u8; 20] = [
-    0, 0, 0, 10, 0, 0, 0, 0, 0, 0, 0, 5, 72, 65, 78, 68, 76, 0, 0, 0,
-];
-
-const LOCK_DENIED: [u8; 44] = [
-    0, 0, 0, 12, 0, 0, 39, 26, 0, 0, 0, 0, 0, 0, 0, 10, 0, 0, 0, 0, 0, 0, 0, 5, 0, 0, 0, 2, 0, 0,
-    0, 0, 0, 0, 1, 2, 0, 0, 0, 4, 67, 49, 47, 97,
-];
-
-const LOCKT_DENIED: [u8; 44] = [
-    0, 0, 0, 13, 0, 0, 39, 26, 0, 0, 0, 0, 0, 0, 0, 10, 0, 0, 0, 0, 0, 0, 0, 5, 0, 0, 0, 1, 0, 0,
-    0, 0, 0, 0, 1, 2, 0, 0, 0, 4, 67, 49, 47, 97,
-];
-
-const OPEN_NONE: [u8; 64] = [
-    0, 0, 0, 18, 0, 0, 0, 0, 0, 0, 0, 1, 0, 0, 0, 3, 0, 0, 0, 0, 0, 0, 1, 4, 0, 0, 0, 1, 0, 0, 0,
-    0, 0, 0, 0, 5, 0, 0, 0, 0, 0, 0, 0, 6, 0, 0, 0, 6, 0, 0, 0, 2, 0, 0, 0, 16, 0, 0, 0, 2, 0, 0,
-    0, 0,
-];
-
-const OPEN_READ: [u8; 100] = [
-    0, 0, 0, 18, 0, 0, 0, 0, 0, 0, 0, 1, 0, 0, 0, 3, 0, 0, 0, 0, 0, 0, 1, 4, 0, 0, 0, 1, 0, 0, 0,
-    0, 0, 0, 0, 5, 0, 0, 0, 0, 0, 0, 0, 6, 0, 0, 0, 6, 0, 0, 0, 2, 0, 0, 0, 16, 0, 0, 0, 2, 0, 0,
-    0, 1, 0, 0, 0, 7, 0, 0, 0, 3, 0, 0, 0, 0, 0, 0, 1, 4, 0, 0, 0, 0, 0, 0, 0, 0, 0, 0, 0, 0, 0, 0,
-    0, 0, 0, 0, 0, 0,
-];
-
-const OPEN_WRITE: [u8; 112] = [
-    0, 0, 0, 18, 0, 0, 0, 0, 0, 0, 0, 1, 0, 0, 0, 3, 0, 0, 0, 0, 0, 0, 1, 4, 0, 0, 0, 1, 0, 0, 0,
-    0, 0, 0, 0, 5, 0, 0, 0, 0, 0, 0, 0, 6, 0, 0, 0, 6, 0, 0, 0, 2, 0, 0, 0, 16, 0, 0, 0, 2, 0, 0,
-    0, 2, 0, 0, 0, 8, 0, 0, 0, 3, 0, 0, 0, 0, 0, 0, 1, 4, 0, 0, 0, 0, 0, 0, 0, 1, 0, 0, 0, 0, 0,
-    16, 0, 0, 0, 0, 0, 0, 0, 0, 0, 0, 0, 0, 0, 0, 0, 0, 0, 0,
-];
-/// That of `OPEN_WRITE` with other values in the place of those that are passed over.
-const OPEN_OTHER: [u8; 120] = [
-    0, 0, 0, 18, 0, 0, 0, 0, 0, 0, 0, 1, 0, 0, 0, 3, 0, 0, 0, 0, 0, 0, 1, 4, 0, 0, 0, 0, 0, 0, 0,
-    0, 0, 0, 0, 5, 0, 0, 0, 0, 0, 0, 0, 6, 0, 0, 0, 6, 0, 0, 0, 2, 0, 0, 0, 16, 0, 0, 0, 2, 0, 0,
-    0, 2, 0, 0, 0, 8, 0, 0, 0, 3, 0, 0, 0, 0, 0, 0, 1, 4, 0, 0, 0, 1, 0, 0, 0, 1, 0, 0, 0, 0, 0, 0,
-    0, 9, 0, 0, 0, 1, 0, 0, 0, 2, 0, 0, 0, 3, 0, 0, 0, 5, 79, 87, 78, 69, 82, 0, 0, 0,
-];
-
-const READ: [u8; 20] = [
-    0, 0, 0, 25, 0, 0, 0, 0, 0, 0, 0, 1, 0, 0, 0, 3, 97, 98, 99, 0,
-];
-
-const READDIR_0: [u8; 24] = [
-    0, 0, 0, 26, 0, 0, 0, 0, 0, 0, 0, 0, 0, 0, 0, 0, 0, 0, 0, 0, 0, 0, 0, 1,
-];
-
-const READDIR_1: [u8; 64] = [
-    0, 0, 0, 26, 0, 0, 0, 0, 0, 0, 0, 0, 0, 0, 0, 0, 0, 0, 0, 1, 0, 0, 0, 0, 0, 0, 0, 18, 0, 0, 0,
-    3, 120, 121, 122, 0, 0, 0, 0, 1, 0, 0, 0, 16, 0, 0, 0, 8, 0, 0, 0, 0, 0, 0, 0, 9, 0, 0, 0, 0,
-    0, 0, 0, 0,
-];
-
-const READDIR_3: [u8; 120] = [
-    0, 0, 0, 26, 0, 0, 0, 0, 0, 0, 0, 0, 0, 0, 0, 0, 0, 0, 0, 1, 0, 0, 0, 0, 0, 0, 0, 16, 0, 0, 0,
-    1, 120, 0, 0, 0, 0, 0, 0, 0, 0, 0, 0, 0, 0, 0, 0, 1, 0, 0, 0, 0, 0, 0, 0, 17, 0, 0, 0, 2, 120,
-    121, 0, 0, 0, 0, 0, 0, 0, 0, 0, 0, 0, 0, 0, 1, 0, 0, 0, 0, 0, 0, 0, 18, 0, 0, 0, 3, 120, 121,
-    122, 0, 0, 0, 0, 1, 0, 0, 0, 16, 0, 0, 0, 8, 0, 0, 0, 0, 0, 0, 0, 9, 0, 0, 0, 0, 0, 0, 0, 1,
-];
-
-const REMOVE: [u8; 28] = [
-    0, 0, 0, 28, 0, 0, 0, 0, 0, 0, 0, 1, 0, 0, 0, 0, 0, 0, 0, 5, 0, 0, 0, 0, 0, 0, 0, 6,
-];
-
-const SETATTR: [u8; 20] = [0, 0, 0, 34, 0, 0, 0, 0, 0, 0, 0, 2, 0, 0, 0, 16, 0, 0, 0, 2];
-
-const SETATTR_NOENT: [u8; 12] = [0, 0, 0, 34, 0, 0, 0, 2, 0, 0, 0, 0];
-
-const SETCLIENTID: [u8; 24] = [
-    0, 0, 0, 35, 0, 0, 0, 0, 0, 0, 0, 0, 0, 0, 1, 2, 0, 0, 0, 0, 0, 0, 0, 7,
-];
-
-const CLID_INUSE: [u8; 36] = [
-    0, 0, 0, 35, 0, 0, 39, 33, 0, 0, 0, 3, 116, 99, 112, 0, 0, 0, 0, 13, 49, 50, 55, 46, 48, 46,
-    48, 46, 49, 46, 56, 46, 49, 0, 0, 0,
-];
-
-const WRITE: [u8; 24] = [
-    0, 0, 0, 38, 0, 0, 0, 0, 0, 0, 0, 3, 0, 0, 0, 2, 0, 0, 0, 0, 0, 0, 0, 0,
-];
-
-const PLAIN: [u8; 96] = [
-    0, 0, 0, 8, 0, 0, 0, 0, 0, 0, 0, 13, 0, 0, 0, 0, 0, 0, 0, 15, 0, 0, 0, 0, 0, 0, 0, 16, 0, 0, 0,
-    0, 0, 0, 0, 22, 0, 0, 0, 0, 0, 0, 0, 23, 0, 0, 0, 0, 0, 0, 0, 24, 0, 0, 0, 0, 0, 0, 0, 30, 0,
-    0, 0, 0, 0, 0, 0, 31, 0, 0, 0, 0, 0, 0, 0, 32, 0, 0, 0, 0, 0, 0, 0, 36, 0, 0, 0, 0, 0, 0, 0,
-    39, 0, 0, 0, 0,
-];
-
-const FAILED: [u8; 300] = [
-    0, 0, 0, 3, 0, 0, 39, 20, 0, 0, 0, 4, 0, 0, 39, 20, 0, 0, 0, 5, 0, 0, 39, 20, 0, 0, 0, 6, 0, 0,
-    39, 20, 0, 0, 0, 7, 0, 0, 39, 20, 0, 0, 0, 8, 0, 0, 39, 20, 0, 0, 0, 9, 0, 0, 39, 20, 0, 0, 0,
-    10, 0, 0, 39, 20, 0, 0, 0, 11, 0, 0, 39, 20, 0, 0, 0, 12, 0, 0, 39, 20, 0, 0, 0, 13, 0, 0, 39,
-    20, 0, 0, 0, 14, 0, 0, 39, 20, 0, 0, 0, 15, 0, 0, 39, 20, 0, 0, 0, 16, 0, 0, 39, 20, 0, 0, 0,
-    17, 0, 0, 39, 20, 0, 0, 0, 18, 0, 0, 39, 20, 0, 0, 0, 19, 0, 0, 39, 20, 0, 0, 0, 20, 0, 0, 39,
-    20, 0, 0, 0, 21, 0, 0, 39, 20, 0, 0, 0, 22, 0, 0, 39, 20, 0, 0, 0, 23, 0, 0, 39, 20, 0, 0, 0,
-    24, 0, 0, 39, 20, 0, 0, 0, 25, 0, 0, 39, 20, 0, 0, 0, 26, 0, 0, 39, 20, 0, 0, 0, 27, 0, 0, 39,
-    20, 0, 0, 0, 28, 0, 0, 39, 20, 0, 0, 0, 29, 0, 0, 39, 20, 0, 0, 0, 30, 0, 0, 39, 20, 0, 0, 0,
-    31, 0, 0, 39, 20, 0, 0, 0, 32, 0, 0, 39, 20, 0, 0, 0, 34, 0, 0, 39, 20, 0, 0, 0, 0, 0, 0, 0,
-    35, 0, 0, 39, 20, 0, 0, 0, 36, 0, 0, 39, 20, 0, 0, 0, 37, 0, 0, 39, 20, 0, 0, 0, 38, 0, 0, 39,
-    20, 0, 0, 0, 39, 0, 0, 39, 20, 0, 0, 39, 60, 0, 0, 39, 60,
-];
-
-/// Those of CLOSE, LOCK, LOCKU, OPEN_CONFIRM and OPEN_DOWNGRADE.
-const STATEIDS: [[u8; 24]; 5] = [
-    [
-        0, 0, 0, 4, 0, 0, 0, 0, 0, 0, 0, 2, 0, 0, 0, 3, 0, 0, 0, 0, 0, 0, 1, 4,
-    ],
-    [
-        0, 0, 0, 12, 0, 0, 0, 0, 0, 0, 0, 2, 0, 0, 0, 3, 0, 0, 0, 0, 0, 0, 1, 4,
-    ],
-    [
-        0, 0, 0, 14, 0, 0, 0, 0, 0, 0, 0, 2, 0, 0, 0, 3, 0, 0, 0, 0, 0, 0, 1, 4,
-    ],
-    [
-        0, 0, 0, 20, 0, 0, 0, 0, 0, 0, 0, 2, 0, 0, 0, 3, 0, 0, 0, 0, 0, 0, 1, 4,
-    ],
-    [
-        0, 0, 0, 21, 0, 0, 0, 0, 0, 0, 0, 2, 0, 0, 0, 3, 0, 0, 0, 0, 0, 0, 1, 4,
-    ],
-];
 
 /// The stateid in them.
 fn stateid(seqid: u32) -> StateId {
@@ -196,7 +60,12 @@ fn result(alloc: Global, op: u32, status: OpStatus, value: ResultValue) -> Resul
 }
 
 /// The bytes of so many results, with those of the whole before them.
-fn whole(alloc: Global, status: OpStatus, count: u8, body: &[u8]) -> Result<Vec<u8>, Fail> {
+pub(crate) fn whole(
+    alloc: Global,
+    status: OpStatus,
+    count: u8,
+    body: &[u8],
+) -> Result<Vec<u8>, Fail> {
     let mut bytes = Vec::from_slice(alloc, &status.number().to_be_bytes())?;
     bytes.extend_from_slice(&[0, 0, 0, 3, b't', b'a', b'g', 0, 0, 0, 0, count])?;
     bytes.extend_from_slice(body)?;
@@ -204,7 +73,7 @@ fn whole(alloc: Global, status: OpStatus, count: u8, body: &[u8]) -> Result<Vec<
 }
 
 /// What is written of results that are read of bytes.
-#[tactic(auto, using(crate::proofs::WrittenLaws::read_fits))]
+#[tactic(auto, using(nm_results::proofs::WrittenLaws::read_fits))]
 fn rewritten(alloc: Global, bytes: &[u8]) -> Result<Vec<u8>, Fail> {
     let read = match read_results(alloc, bytes) {
         Ok(read) => read,
@@ -229,11 +98,11 @@ fn is_both_ways(
 }
 
 /// Where bytes aren't results.
-fn fault(alloc: Global, bytes: &[u8]) -> Option<ResultsFault> {
+pub(crate) fn fault(alloc: Global, bytes: &[u8]) -> Option<ResultsFault> {
     read_results(alloc, bytes).err()
 }
 
-fn at(at: usize) -> Option<ResultsFault> {
+pub(crate) fn at(at: usize) -> Option<ResultsFault> {
     Some(ResultsFault::At { at })
 }
 
@@ -712,228 +581,6 @@ fn a_byte_left_over_is_told(rt: HostRuntime) -> Result<(), Fail> {
         assert_eq!(rt; fault(alloc, &bytes), at(end));
         bytes.extend_from_slice(&[0; 7])?;
         assert_eq!(rt; fault(alloc, &bytes), at(end));
-    }
-    Ok(())
-}
-
-/// Results up to an item that has a limit, as RFC 7531 and this server give it: the status, the bytes of the result, the limit, how
-/// many bytes are so long, and the bytes behind the item.
-const LIMITED: [(OpStatus, &[u8], u32, usize, &[u8]); 16] = [
-    // GETFH: the filehandle
-    (OpStatus::Nfs4Ok, &[0, 0, 0, 10, 0, 0, 0, 0], 128, 128, &[]),
-    // READ: the bytes
-    (
-        OpStatus::Nfs4Ok,
-        &[0, 0, 0, 25, 0, 0, 0, 0, 0, 0, 0, 1],
-        65_536,
-        65_536,
-        &[],
-    ),
-    // LOCK and LOCKT: the owner of the lock that is in the way
-    (
-        OpStatus::Denied,
-        &[
-            0, 0, 0, 12, 0, 0, 39, 26, 0, 0, 0, 0, 0, 0, 0, 0, 0, 0, 0, 0, 0, 0, 0, 1, 0, 0, 0, 1,
-            0, 0, 0, 0, 0, 0, 0, 5,
-        ],
-        1_024,
-        1_024,
-        &[],
-    ),
-    (
-        OpStatus::Denied,
-        &[
-            0, 0, 0, 13, 0, 0, 39, 26, 0, 0, 0, 0, 0, 0, 0, 0, 0, 0, 0, 0, 0, 0, 0, 1, 0, 0, 0, 2,
-            0, 0, 0, 0, 0, 0, 0, 5,
-        ],
-        1_024,
-        1_024,
-        &[],
-    ),
-    // SETCLIENTID: the netid and the address of the client that uses the name
-    (
-        OpStatus::ClidInUse,
-        &[0, 0, 0, 35, 0, 0, 39, 33],
-        1_024,
-        1_024,
-        &[0, 0, 0, 0],
-    ),
-    (
-        OpStatus::ClidInUse,
-        &[0, 0, 0, 35, 0, 0, 39, 33, 0, 0, 0, 0],
-        1_024,
-        1_024,
-        &[],
-    ),
-    // SETATTR, CREATE and OPEN: the words of the attributes that were set
-    (OpStatus::Nfs4Ok, &[0, 0, 0, 34, 0, 0, 0, 0], 8, 32, &[]),
-    (
-        OpStatus::Nfs4Ok,
-        &[
-            0, 0, 0, 6, 0, 0, 0, 0, 0, 0, 0, 1, 0, 0, 0, 0, 0, 0, 0, 5, 0, 0, 0, 0, 0, 0, 0, 6,
-        ],
-        8,
-        32,
-        &[],
-    ),
-    (
-        OpStatus::Nfs4Ok,
-        &[
-            0, 0, 0, 18, 0, 0, 0, 0, 0, 0, 0, 1, 0, 0, 0, 3, 0, 0, 0, 0, 0, 0, 1, 4, 0, 0, 0, 1, 0,
-            0, 0, 0, 0, 0, 0, 5, 0, 0, 0, 0, 0, 0, 0, 6, 0, 0, 0, 2,
-        ],
-        8,
-        32,
-        &[0, 0, 0, 0],
-    ),
-    // OPEN: who the ace of a delegation for reading, and of one for writing, names
-    (
-        OpStatus::Nfs4Ok,
-        &[
-            0, 0, 0, 18, 0, 0, 0, 0, 0, 0, 0, 1, 0, 0, 0, 3, 0, 0, 0, 0, 0, 0, 1, 4, 0, 0, 0, 1, 0,
-            0, 0, 0, 0, 0, 0, 5, 0, 0, 0, 0, 0, 0, 0, 6, 0, 0, 0, 2, 0, 0, 0, 0, 0, 0, 0, 1, 0, 0,
-            0, 1, 0, 0, 0, 3, 0, 0, 0, 0, 0, 0, 1, 4, 0, 0, 0, 0, 0, 0, 0, 0, 0, 0, 0, 0, 0, 0, 0,
-            0,
-        ],
-        1_024,
-        1_024,
-        &[],
-    ),
-    (
-        OpStatus::Nfs4Ok,
-        &[
-            0, 0, 0, 18, 0, 0, 0, 0, 0, 0, 0, 1, 0, 0, 0, 3, 0, 0, 0, 0, 0, 0, 1, 4, 0, 0, 0, 1, 0,
-            0, 0, 0, 0, 0, 0, 5, 0, 0, 0, 0, 0, 0, 0, 6, 0, 0, 0, 2, 0, 0, 0, 0, 0, 0, 0, 2, 0, 0,
-            0, 1, 0, 0, 0, 3, 0, 0, 0, 0, 0, 0, 1, 4, 0, 0, 0, 0, 0, 0, 0, 1, 0, 0, 0, 0, 0, 16, 0,
-            0, 0, 0, 0, 0, 0, 0, 0, 0, 0, 0, 0, 0,
-        ],
-        1_024,
-        1_024,
-        &[],
-    ),
-    // GETATTR: the words and the values
-    (
-        OpStatus::Nfs4Ok,
-        &[0, 0, 0, 9, 0, 0, 0, 0],
-        8,
-        32,
-        &[0, 0, 0, 0],
-    ),
-    (
-        OpStatus::Nfs4Ok,
-        &[0, 0, 0, 9, 0, 0, 0, 0, 0, 0, 0, 0],
-        65_536,
-        65_536,
-        &[],
-    ),
-    // READDIR: the name of an entry, the words of its attributes, and their values
-    (
-        OpStatus::Nfs4Ok,
-        &[
-            0, 0, 0, 26, 0, 0, 0, 0, 0, 0, 0, 0, 0, 0, 0, 0, 0, 0, 0, 1, 0, 0, 0, 0, 0, 0, 0, 16,
-        ],
-        1_048_576,
-        1_048_576,
-        &[0, 0, 0, 0, 0, 0, 0, 0, 0, 0, 0, 0, 0, 0, 0, 1],
-    ),
-    (
-        OpStatus::Nfs4Ok,
-        &[
-            0, 0, 0, 26, 0, 0, 0, 0, 0, 0, 0, 0, 0, 0, 0, 0, 0, 0, 0, 1, 0, 0, 0, 0, 0, 0, 0, 16,
-            0, 0, 0, 0,
-        ],
-        8,
-        32,
-        &[0, 0, 0, 0, 0, 0, 0, 0, 0, 0, 0, 1],
-    ),
-    (
-        OpStatus::Nfs4Ok,
-        &[
-            0, 0, 0, 26, 0, 0, 0, 0, 0, 0, 0, 0, 0, 0, 0, 0, 0, 0, 0, 1, 0, 0, 0, 0, 0, 0, 0, 16,
-            0, 0, 0, 0, 0, 0, 0, 0,
-        ],
-        65_536,
-        65_536,
-        &[0, 0, 0, 0, 0, 0, 0, 1],
-    ),
-];
-
-/// Bytes, a length, so many bytes that are 0, and bytes.
-fn around(
-    alloc: Global,
-    front: &[u8],
-    length: u32,
-    size: usize,
-    behind: &[u8],
-) -> Result<Vec<u8>, Fail> {
-    let mut bytes = Vec::from_slice(alloc, front)?;
-    bytes.extend_from_slice(&length.to_be_bytes())?;
-    bytes.resize(bytes.len().saturating_add(size), 0)?;
-    bytes.extend_from_slice(behind)?;
-    Ok(bytes)
-}
-
-#[test]
-fn items_are_read_up_to_their_limit_and_not_past_it(rt: HostRuntime) -> Result<(), Fail> {
-    let alloc = rt.alloc();
-    for (status, front, limit, size, behind) in LIMITED {
-        let front = whole(alloc, status, 1, front)?;
-        let item = at(front.len());
-        let longest = around(alloc, &front, limit, size, behind)?;
-        assert_eq!(rt; fault(alloc, &longest), None);
-        // one more, and what pads it; then a length far past the bytes
-        let past = limit.saturating_add(1);
-        let longer = around(alloc, &front, past, size.saturating_add(4), behind)?;
-        assert_eq!(rt; fault(alloc, &longer), item);
-        let endless = around(alloc, &front, u32::MAX, size, behind)?;
-        assert_eq!(rt; fault(alloc, &endless), item);
-    }
-    Ok(())
-}
-
-#[test]
-fn a_tag_is_read_up_to_its_limit_and_not_past_it(rt: HostRuntime) -> Result<(), Fail> {
-    let alloc = rt.alloc();
-    // a status, the tag, and no results
-    for (length, size, want) in [
-        (1_024, 1_024, None),
-        (1_025, 1_028, at(4)),
-        (u32::MAX, 1_024, at(4)),
-    ] {
-        let bytes = around(alloc, &[0, 0, 0, 0], length, size, &[0, 0, 0, 0])?;
-        assert_eq!(rt; fault(alloc, &bytes), want, "a tag of {length}");
-    }
-    Ok(())
-}
-
-#[test]
-fn rows_without_end_are_told_where_the_bytes_end(rt: HostRuntime) -> Result<(), Fail> {
-    let alloc = rt.alloc();
-    // an OK of PUTROOTFH, and an entry of a directory behind its flag, as often as a record of 1 MiB has room for
-    let rows: [(&[u8], u32, &[u8], u32); 2] = [
-        (
-            &[0, 0, 0, 0, 0, 0, 0, 0],
-            u32::MAX,
-            &[0, 0, 0, 24, 0, 0, 0, 0],
-            131_000,
-        ),
-        (
-            &[
-                0, 0, 0, 0, 0, 0, 0, 0, 0, 0, 0, 1, 0, 0, 0, 26, 0, 0, 0, 0, 0, 0, 0, 0,
-            ],
-            0,
-            &[
-                0, 0, 0, 1, 0, 0, 0, 0, 0, 0, 0, 16, 0, 0, 0, 0, 0, 0, 0, 0, 0, 0, 0, 0,
-            ],
-            43_000,
-        ),
-    ];
-    for (front, word, row, count) in rows {
-        let mut bytes = around(alloc, front, word, 0, &[])?;
-        for _ in 0..count {
-            bytes.extend_from_slice(row)?;
-        }
-        assert_eq!(rt; fault(alloc, &bytes), at(bytes.len()));
     }
     Ok(())
 }

@@ -1,4 +1,5 @@
-use super::*;
+//! Records of RPC (RFC 5531, 11).
+use nm_rpc::*;
 use std::alloc::Global;
 use std::test::Fail;
 
