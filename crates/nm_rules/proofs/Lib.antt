@@ -10,5 +10,6 @@ pub mod OwnerLaws
 pub mod OwnerLemmas
 pub mod OwnerRows
 pub mod PartyLemmas
+pub mod SeqidLaws
 pub mod ShareLaws
 pub mod WireLaws

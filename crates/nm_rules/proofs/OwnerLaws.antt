@@ -22,7 +22,7 @@ use Rattle.nm_rules.proofs.OwnerLemmas.{same_owner-Decides}
 use Rattle.nm_rules.proofs.Legal.{look-seen, words-old}
 
 -- what an operation leaves of an owner, in the words of the reading
-abbrev read_row : Bool → Owner → Call → Reply → OwnerRow
+abbrev pub read_row : Bool → Owner → Call → Reply → OwnerRow
 read_row confirmed owner call r = record { owner = owner; seqid = seqid_of call.deed; confirmed = confirmed; call = call; reply = without_recalls r }
 
 or_then : (b c : Bool) → (b || c) ≡ cond c true b

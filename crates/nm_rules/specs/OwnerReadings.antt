@@ -54,3 +54,12 @@ owner_now (x ∷ earlier) owner = owner_with (now earlier) x.event x.reply (owne
           reply = without_recalls r;
         })
         else before
+
+-- The seqids by which an owner moved on since its client's latest end, the newest first.
+unfoldable pub seqids_of : Past → Owner → List ℕ
+seqids_of [] owner = []
+seqids_of (x ∷ earlier) owner = seqids_with (now earlier) x.event x.reply (seqids_of earlier owner)
+  where
+    seqids_with : Now → Event → Reply → List ℕ → List ℕ
+    seqids_with n (Ended party) r before = if same_party party owner.instance then [] else before
+    seqids_with n (Asked call verdict) r before = if moves_on n owner call r then seqid_of call.deed ∷ before else before

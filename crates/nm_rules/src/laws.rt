@@ -1,10 +1,10 @@
 //! Laws of legal lists: each is the contract of a function that does nothing. They are over the definitions alone, and
 //! the contracts of the crates above bind the code to the same definitions.
-ghost use Rattle.std.specs.Prelude.{◌≡◌, ◌≢◌, ◌≤◌, ◌+◌, ℕ, Bool, true, Some, length};
+ghost use Rattle.std.specs.Prelude.{◌≡◌, ◌≢◌, ◌≤◌, ◌<◌, ◌+◌, ℕ, Bool, true, Some, length, slice_get};
 ghost use Rattle.nm_rules.specs.Contents.{file_at};
 ghost use Rattle.nm_rules.specs.FileReadings.{IsRead};
 ghost use Rattle.nm_rules.specs.declared.rows.FileRow.{FileRow as AnyRow};
-ghost use Rattle.nm_rules.specs.OwnerReadings.{owner_now};
+ghost use Rattle.nm_rules.specs.OwnerReadings.{owner_now, seqids_of};
 ghost use Rattle.nm_rules.specs.Past.{Past, now, judgement};
 ghost use Rattle.nm_rules.specs.Seqids.{owner_at};
 ghost use Rattle.nm_rules.specs.Seen.{Seen, seen, look, after};
@@ -63,6 +63,14 @@ pub fn rows_grow_by_two()
 pub fn repeats_change_nothing()
     ensures { (s : Seen) (call : AnyCall) (verdict : AnyVerdict) (reply : AnyReply)
         → judgement (look s) call ≡ Again → after s (Asked call verdict) reply ≡ s }
+{}
+
+/// While an owner is known it comes back to a seqid only after all others (RFC 7530, 9.1.7): of two operations that moved it on
+/// by the same seqid, 2^32 - 2 such operations stand between them. Here they are numbered from the newest.
+pub fn seqids_are_apart()
+    ensures { (es : Past) (owner : AnyOwner) (newer older n : ℕ)
+        → slice_get (seqids_of es owner) newer ≡ Some n → slice_get (seqids_of es owner) older ≡ Some n
+        → newer < older → newer + 4294967295 ≤ older }
 {}
 
 /// The table of owners keeps of each owner what the entries tell: the seqid, the call and the reply of its latest fresh
