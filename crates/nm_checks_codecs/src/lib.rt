@@ -1,5 +1,5 @@
-//! Tests of the codecs: what their calls answer to bytes from outside, and each call that allocates run once. Nothing stands
-//! on this crate. The codecs' own proofs don't wait for it, and it doesn't repeat them.
+//! Tests of the codecs, and of the names and numbers below them: what their calls answer to bytes from outside, and each call
+//! that allocates run once. Nothing stands on this crate. The codecs' own proofs don't wait for it, and it doesn't repeat them.
 #![tactic(auto)]
 
 #[cfg(test)]
@@ -18,6 +18,8 @@ mod rpc_messages;
 mod rpc_names;
 #[cfg(test)]
 mod rpc_records;
+#[cfg(test)]
+mod rules;
 #[cfg(test)]
 mod vectors;
 #[cfg(test)]

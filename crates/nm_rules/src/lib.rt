@@ -18,8 +18,6 @@ mod results;
 mod rows;
 mod status;
 mod table;
-#[cfg(test)]
-mod tests;
 mod wire;
 
 pub use action::{

@@ -1,7 +1,8 @@
 //! Values from the standard, and each call that allocates run once.
-use crate::{
-    Action, Bytes, CloseAction, Epoch, Era, FsNum, Instance, Items, MoveNum, NameFault, OpStatus,
-    OpenAction, OpenRow, Owner, OwnerKind, Principal, ServerNum, Verb,
+use nm_rules::{
+    Action, Bytes, Call, Claim, CloseAction, CloseArgs, Deed, Epoch, Era, FsNum, Instance, Items,
+    MoveNum, NameFault, OpStatus, OpenAction, OpenArgs, OpenRow, OpenType, Owner, OwnerKind,
+    Principal, Reply, ReplyValue, ServerNum, StateId, StateRef, Verb,
 };
 use std::alloc::Global;
 use std::test::Fail;
@@ -195,5 +196,72 @@ fn actions_have_their_words(rt: HostRuntime) -> Result<(), Fail> {
         };
         assert_eq!(rt; action.verb(), verb);
     }
+    Ok(())
+}
+
+/// An OPEN without creation, of the name `f`.
+fn open_call(alloc: Global, caller: Instance, access: u32) -> Result<Call, Fail> {
+    Ok(Call {
+        caller: Some(caller),
+        file: 1,
+        deed: Deed::Open(OpenArgs {
+            seqid: 7,
+            access,
+            deny: 0,
+            owner: Bytes::from_slice(alloc, b"C1/o")?,
+            opentype: OpenType::NoCreate,
+            claim: Claim::Null(Bytes::from_slice(alloc, b"f")?),
+        }),
+    })
+}
+
+#[test]
+fn a_call_is_repeated_by_itself_alone(rt: HostRuntime) -> Result<(), Fail> {
+    // RFC 7530, 9.1.7.
+    let alloc = rt.alloc();
+    let caller = Instance::make(b"nfsmove/C1", 7, ROOT).ok().ok_or("short")?;
+    let restarted = Instance::make(b"nfsmove/C1", 8, ROOT).ok().ok_or("short")?;
+    let kept = open_call(alloc, caller, 3)?;
+    for (who, access, is_same) in [(caller, 3, true), (caller, 1, false), (restarted, 3, false)] {
+        assert_eq!(rt; open_call(alloc, who, access)?.repeats(&kept), is_same);
+    }
+    Ok(())
+}
+
+#[test]
+fn a_close_is_repeated_by_the_same_stateid(rt: HostRuntime) {
+    let close = |file: u64, seqid: u32| Call {
+        caller: None,
+        file,
+        deed: Deed::Close(CloseArgs {
+            seqid: 3,
+            stateid: StateRef::Named(StateId {
+                seqid,
+                fs: 0,
+                counter: 1,
+            }),
+        }),
+    };
+    for (file, seqid, is_same) in [(16, 2, true), (17, 2, false), (16, 1, false)] {
+        assert_eq!(rt; close(file, seqid).repeats(&close(16, 2)), is_same);
+    }
+    let look_up = Call {
+        caller: None,
+        file: 1,
+        deed: Deed::LookupP,
+    };
+    // An operation without a seqid is never one that came before.
+    assert_eq!(rt; look_up.repeats(&look_up), false);
+}
+
+#[test]
+fn a_reply_is_copied(rt: HostRuntime) -> Result<(), Fail> {
+    let alloc = rt.alloc();
+    let reply = Reply {
+        status: OpStatus::Nfs4Ok,
+        value: ReplyValue::SetAttr(Items::from_slice(alloc, &[16, 2])?),
+        recalls: Items::new(alloc),
+    };
+    assert_eq!(rt; reply.copy()? == reply, true);
     Ok(())
 }
