@@ -1,5 +1,6 @@
 pub mod Apart
 pub mod Classes
+pub mod ClosedLaws
 pub mod FileLaws
 pub mod FileRows
 pub mod HolderLaws

@@ -1,15 +1,20 @@
 -- What is known of an owner, in the standard's words, read off the entries alone (RFC 7530, 9.1.7 and 16.18).
-use Rattle.std.specs.Prelude.{ℕ, Bool, true, false, List, [], ◌∷◌, Option, Some, None, if◌then◌else◌}
+use Rattle.std.specs.Prelude.{ℕ, Bool, true, false, List, [], ◌∷◌, filter, map, Option, Some, None, if◌then◌else◌}
 use Rattle.nm_rules.specs.Parties.{Party, same_party}
 use Rattle.nm_rules.specs.Owners.{same_owner}
 use Rattle.nm_rules.specs.Seqids.{advances, seqid_of, is_fresh, without_recalls}
 use Rattle.nm_rules.specs.Past.{Past, Now, now, acts, judgement, seqid_owner, confirms}
 use Rattle.nm_rules.specs.declared.calls.Call.{Call}
+use Rattle.nm_rules.specs.declared.calls.Deed.{Deed}
+use Rattle.nm_rules.specs.declared.calls.Deed.TheVariants as deed
 use Rattle.nm_rules.specs.declared.calls.Event.{Event}
 use Rattle.nm_rules.specs.declared.calls.Event.TheVariants.{Asked, Ended}
 use Rattle.nm_rules.specs.declared.calls.Owner.{Owner}
 use Rattle.nm_rules.specs.declared.calls.Reply.{Reply}
+use Rattle.nm_rules.specs.declared.calls.ReplyValue.{ReplyValue}
+use Rattle.nm_rules.specs.declared.calls.ReplyValue.TheVariants as told
 use Rattle.nm_rules.specs.declared.owners.OwnerRow.{OwnerRow}
+use Rattle.nm_rules.specs.declared.rows.OpenRow.{OpenRow}
 
 abbrev pub is_owner : Owner → Option Owner → Bool
 is_owner owner None = false
@@ -63,3 +68,22 @@ seqids_of (x ∷ earlier) owner = seqids_with (now earlier) x.event x.reply (seq
     seqids_with : Now → Event → Reply → List ℕ → List ℕ
     seqids_with n (Ended party) r before = if same_party party owner.instance then [] else before
     seqids_with n (Asked call verdict) r before = if moves_on n owner call r then seqid_of call.deed ∷ before else before
+
+-- ---- closed opens
+
+-- the counter of the open that an owner's kept call has closed, where it is a CLOSE that was carried out
+unfoldable pub closed_by_call : Deed → ReplyValue → Option ℕ
+closed_by_call (deed.Close _) (told.Close (Some id)) = Some id.counter
+closed_by_call _ _ = None
+
+abbrev pub kept_close : Option OwnerRow → Option ℕ
+kept_close None = None
+kept_close (Some row) = closed_by_call row.call.deed row.reply.value
+
+abbrev pub counter_list : Option ℕ → List ℕ
+counter_list None = []
+counter_list (Some counter) = counter ∷ []
+
+-- the counters of an owner's closed opens in a table
+unfoldable pub closed_of : Owner → List OpenRow → List ℕ
+closed_of owner rows = map (λ row. row.counter) (filter (λ row. same_owner owner row.owner) rows)

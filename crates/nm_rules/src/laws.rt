@@ -4,7 +4,7 @@ ghost use Rattle.std.specs.Prelude.{◌≡◌, ◌≢◌, ◌≤◌, ◌<◌, �
 ghost use Rattle.nm_rules.specs.Contents.{file_at};
 ghost use Rattle.nm_rules.specs.FileReadings.{IsRead};
 ghost use Rattle.nm_rules.specs.declared.rows.FileRow.{FileRow as AnyRow};
-ghost use Rattle.nm_rules.specs.OwnerReadings.{owner_now, seqids_of};
+ghost use Rattle.nm_rules.specs.OwnerReadings.{closed_of, counter_list, kept_close, owner_now, seqids_of};
 ghost use Rattle.nm_rules.specs.Past.{Past, now, judgement};
 ghost use Rattle.nm_rules.specs.Seqids.{owner_at};
 ghost use Rattle.nm_rules.specs.Seen.{Seen, seen, look, after};
@@ -71,6 +71,13 @@ pub fn seqids_are_apart()
     ensures { (es : Past) (owner : AnyOwner) (newer older n : ℕ)
         → slice_get (seqids_of es owner) newer ≡ Some n → slice_get (seqids_of es owner) older ≡ Some n
         → newer < older → newer + 4294967295 ≤ older }
+{}
+
+/// An open that is closed is kept exactly while its CLOSE is its owner's kept call: the counters of an owner's closed opens are
+/// that of the kept call, where it is a CLOSE that was carried out, and else none. So a CLOSE that comes again finds its owner.
+pub fn closed_opens_are_kept_closes()
+    ensures { (fs : ℕ) (grants : Bool) (es : Past) → IsLegal fs grants es
+        → (owner : AnyOwner) → closed_of owner (seen fs grants es).closed ≡ counter_list (kept_close (owner_at owner (seen fs grants es).owners)) }
 {}
 
 /// The table of owners keeps of each owner what the entries tell: the seqid, the call and the reply of its latest fresh
