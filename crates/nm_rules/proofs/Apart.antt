@@ -234,7 +234,7 @@ narrowed_suits row access deny rows all at less_access less_deny x within ne =
     (shares_conflict row.access row.deny x.access x.deny) (shares_conflict access deny x.access x.deny)
     (apart_in rows row x all at within (λ e. ne (sym e)))
     (λ apart.
-        let parts = or_parts (meets row.access x.deny) (meets x.access row.deny) apart in
-        neither (meets access x.deny) (meets x.access deny)
-        (part_meets access row.access x.deny less_access parts.0)
-        (meets_part deny row.deny x.access less_deny parts.1))
+    let parts = or_parts (meets row.access x.deny) (meets x.access row.deny) apart in
+    neither (meets access x.deny) (meets x.access deny)
+    (part_meets access row.access x.deny less_access parts.0)
+    (meets_part deny row.deny x.access less_deny parts.1))

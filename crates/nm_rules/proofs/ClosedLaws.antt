@@ -5,18 +5,17 @@ use Rattle.std.specs.Option.{option_or}
 use Rattle.std.proofs.lemmas.Bool.{both_ways}
 use Rattle.nm_rules.specs.Parties.{Party, same_party}
 use Rattle.nm_rules.specs.Owners.{same_owner}
-use Rattle.nm_rules.specs.Shares.{open_at, renewed_row}
+use Rattle.nm_rules.specs.Shares.{open_at}
 use Rattle.nm_rules.specs.Seqids.{OwnerWord, advances, seqid_of, is_fresh, owner_at, owners_after, owner_left, closed_after, listed}
 use Rattle.nm_rules.specs.Seqids.OwnerWord.{Stays, Noted, GoneOf}
 use Rattle.nm_rules.specs.OwnerReadings.{closed_by_call, kept_close, counter_list, closed_of}
-use Rattle.nm_rules.specs.Past.{Past, Now, Words, words, no_words, judgement, seqid_owner, named_by, noted, noted_row, closed_by}
+use Rattle.nm_rules.specs.Past.{Past, Now, Words, words, judgement, seqid_owner, named_by, noted, noted_row, closed_by}
 use Rattle.nm_rules.specs.Seen.{Seen, seen, look, after, after_words}
 use Rattle.nm_rules.specs.Checks.{Stop, first}
 use Rattle.nm_rules.specs.Checks.Stop.{Refuse, Repeat}
 use Rattle.nm_rules.specs.Opens.{changed_stateid, next_stateid}
 use Rattle.nm_rules.specs.Stateids.{open_named}
 use Rattle.nm_rules.specs.Answer.{answer_to, reply_by, reply_with, refused_value, ok_value, checks, IsLegal}
-use Rattle.nm_rules.specs.declared.args.CloseArgs.{CloseArgs}
 use Rattle.nm_rules.specs.declared.calls.Call.{Call}
 use Rattle.nm_rules.specs.declared.calls.Deed.{Deed}
 use Rattle.nm_rules.specs.declared.calls.Deed.TheVariants as deed
@@ -27,10 +26,8 @@ use Rattle.nm_rules.specs.declared.calls.Reply.{Reply}
 use Rattle.nm_rules.specs.declared.calls.ReplyValue.TheVariants as told
 use Rattle.nm_rules.specs.declared.calls.StateRef.{StateRef}
 use Rattle.nm_rules.specs.declared.calls.StateRef.TheVariants.{Zeros, Ones, Named}
-use Rattle.nm_rules.specs.declared.calls.Verdict.{Verdict}
 use Rattle.nm_rules.specs.declared.owners.OwnerRow.{OwnerRow}
 use Rattle.nm_rules.specs.declared.rows.OpenRow.{OpenRow}
-use Rattle.nm_rules.specs.declared.status.OpStatus.{OpStatus}
 use Rattle.nm_rules.proofs.OwnerLemmas.{same_owner-Decides}
 use Rattle.nm_rules.proofs.OwnerRows.{owner_by-after}
 use Rattle.nm_rules.proofs.Legal.{words-free, words-old, words-refused, repeat_is_old, named_is_live}

@@ -16,7 +16,7 @@ use Rattle.nm_rules.specs.Data.{write_value}
 use Rattle.nm_rules.specs.Files.{create_value}
 use Rattle.nm_rules.specs.Opens.{open_checks, open_value, target}
 use Rattle.nm_rules.specs.Seqids.{is_fresh}
-use Rattle.nm_rules.specs.Past.{Past, Now, acts, words, no_words, is_done, deed_words, judgement, close_words, confirm_words, downgrade_words, open_tree, claimed_in, claimed_name, opentype_asks, cuts, parent_of, set_tree, write_tree}
+use Rattle.nm_rules.specs.Past.{Past, Now, acts, words, is_done, deed_words, judgement, close_words, confirm_words, downgrade_words, open_tree, claimed_in, claimed_name, opentype_asks, cuts, parent_of, set_tree, write_tree}
 use Rattle.nm_rules.specs.Seen.{Seen, seen, look, after, after_words}
 use Rattle.nm_rules.specs.Answer.{answer_to, reply_by, reply_with, refused_value, ok_value, checks, IsLegal}
 use Rattle.nm_rules.specs.FileReadings.{FileChange, open_change, deed_change, change_of, byte_after, size_after, mode_after, name_after, dir_after, byte_of, size_of, mode_of, name_of, dir_of, IsRead}

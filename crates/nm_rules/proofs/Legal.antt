@@ -12,8 +12,7 @@ use Rattle.nm_rules.specs.Contents.{TreeNow, TreeWord, FileEdit, root_row, taken
 use Rattle.nm_rules.specs.Contents.TreeWord.{Untouched, Made, Edited, Removed}
 use Rattle.nm_rules.specs.Contents.FileEdit.{Wrote, Set}
 use Rattle.nm_rules.specs.Seqids.{OwnerWord, owner_at, judged, is_fresh, seqid_of}
-use Rattle.nm_rules.specs.Seqids.OwnerWord.{Stays}
-use Rattle.nm_rules.specs.Shares.{open_at, open_of, opened_row, is_opposed, put_open, put_if, renewed_row, narrowed_row, opens_after, OpenWord}
+use Rattle.nm_rules.specs.Shares.{open_at, open_of, opened_row, is_opposed, put_open, renewed_row, narrowed_row, opens_after, OpenWord}
 use Rattle.nm_rules.specs.Shares.OpenWord.{Put, Drop, DropOf}
 use Rattle.nm_rules.specs.Past.{Past, Now, Words, now, left, acts, words, no_words, is_done, deed_words, judgement, judgement_for, named_by, seqid_owner, noted, owner_word, with_owners, nothing_yet, open_words, close_words, confirm_words, downgrade_words, opener, open_tree, claimed_in, claimed_name, cuts, parent_of, set_tree, write_tree}
 use Rattle.nm_rules.specs.Seen.{Seen, empty, seen, look, after, after_words}
@@ -22,12 +21,11 @@ use Rattle.nm_rules.specs.Checks.Stop.{Refuse, Repeat}
 use Rattle.nm_rules.specs.Data.{read_checks, write_checks, write_value, setattr_checks, size_checks, mode_checks, commit_checks}
 use Rattle.nm_rules.specs.Files.{file_checks, dir_checks, lookup_checks, create_checks, create_value, remove_checks, readdir_checks}
 use Rattle.nm_rules.specs.Opens.{open_checks, GoesOpen, open_value, close_checks, confirm_checks, downgrade_checks, changed_stateid, next_stateid, is_narrower, row_to_open, file_to_open, target, target_at, claim_arguments, open_fault, claim_fault, is_share, open_limit, tree_limit}
-use Rattle.nm_rules.specs.Stateids.{open_named, resolved, is_own, unresolved_at, owner_stop, owner_stop_at, judged_stop}
+use Rattle.nm_rules.specs.Stateids.{open_named, resolved, unresolved_at, owner_stop, owner_stop_at, judged_stop}
 use Rattle.nm_rules.specs.Answer.{answer_to, reply_by, reply_with, refused_value, ok_value, checks, IsLegal}
 use Rattle.nm_rules.specs.Sound.{IsSound, rises, all_apart, files_rise}
 use Rattle.nm_rules.specs.declared.args.OpenArgs.{OpenArgs}
 use Rattle.nm_rules.specs.declared.args.OpenType.{OpenType}
-use Rattle.nm_rules.specs.declared.args.CloseArgs.{CloseArgs}
 use Rattle.nm_rules.specs.declared.args.OpenDowngradeArgs.{OpenDowngradeArgs}
 use Rattle.nm_rules.specs.declared.args.SetAttrArgs.{SetAttrArgs}
 use Rattle.nm_rules.specs.declared.args.WriteArgs.{WriteArgs}
@@ -48,7 +46,7 @@ use Rattle.nm_rules.specs.declared.calls.ReplyValue.TheVariants as told
 use Rattle.nm_rules.specs.declared.rows.FileRow.{FileRow}
 use Rattle.nm_rules.specs.declared.rows.OpenRow.{OpenRow}
 use Rattle.nm_rules.specs.declared.status.OpStatus.{OpStatus}
-use Rattle.nm_rules.specs.declared.status.OpStatus.TheVariants.{Nfs4Ok, ShareDenied, Resource, BadStateId, Inval}
+use Rattle.nm_rules.specs.declared.status.OpStatus.TheVariants.{ShareDenied, Resource, Inval}
 use Rattle.nm_rules.proofs.Classes.{or_none, refuse_if-none, IsFree, all_free, first_repeats}
 use Rattle.nm_rules.proofs.FileRows.{stamped_keeps, edited_keeps, files_rise-map, files_rise-filter, files_rise-push}
 use Rattle.nm_rules.proofs.OpenRows.{and_parts, open_at-past, open_at-in, in-open_at, rises-filter, rises-put_new, rises-put_old}

@@ -13,4 +13,5 @@ pub mod OwnerRows
 pub mod PartyLemmas
 pub mod SeqidLaws
 pub mod ShareLaws
+pub mod StateidLaws
 pub mod WireLaws

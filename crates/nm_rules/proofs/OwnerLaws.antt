@@ -1,14 +1,14 @@
 -- The table of owners keeps what the entries say of each, and a call that came before changes nothing.
-use Rattle.std.proofs.Common.{◌≡◌, Bool, true, false, cond, List, [], ◌∷◌, Option, Some, None, refl, ap, sym, ◌∙◌, ℕ}
+use Rattle.std.proofs.Common.{◌≡◌, Bool, true, false, cond, [], ◌∷◌, Option, Some, None, refl, ap, sym, ◌∙◌, ℕ}
 use Rattle.std.specs.Prelude.{◌||◌}
 use Rattle.nm_rules.specs.Parties.{same_party}
 use Rattle.nm_rules.specs.Owners.{same_owner}
 use Rattle.nm_rules.specs.Shares.{opens_after}
 use Rattle.nm_rules.specs.Contents.{tree_after}
-use Rattle.nm_rules.specs.Seqids.{OwnerWord, advances, seqid_of, is_fresh, is_confirmed, without_recalls, owner_at, owners_after, owner_left, closed_after}
+use Rattle.nm_rules.specs.Seqids.{advances, seqid_of, is_fresh, is_confirmed, without_recalls, owner_at, owners_after, owner_left, closed_after}
 use Rattle.nm_rules.specs.Seqids.OwnerWord.{Stays, Noted}
 use Rattle.nm_rules.specs.OwnerReadings.{is_owner, moves_on, confirmed_by, was_confirmed, owner_now}
-use Rattle.nm_rules.specs.Past.{Past, Now, now, left, words, no_words, acts, is_done, confirms, judgement, seqid_owner, noted, noted_row, closed_by}
+use Rattle.nm_rules.specs.Past.{Past, Now, now, left, words, no_words, is_done, confirms, judgement, seqid_owner, noted, noted_row, closed_by}
 use Rattle.nm_rules.specs.Seen.{Seen, seen, look, after, after_words}
 use Rattle.nm_rules.specs.Answer.{IsLegal}
 use Rattle.nm_rules.specs.declared.calls.Call.{Call}

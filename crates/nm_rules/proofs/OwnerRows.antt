@@ -1,7 +1,7 @@
 -- Laws of the table of owners: look-ups by owner after each word.
-use Rattle.std.proofs.Common.{◌≡◌, Bool, true, false, cond, List, [], ◌∷◌, Option, Some, None, refl, ap, sym, ◌∙◌}
+use Rattle.std.proofs.Common.{◌≡◌, Bool, true, false, cond, List, [], ◌∷◌, Option, Some, None, refl, ◌∙◌}
 use Rattle.std.specs.Prelude.{not, filter}
-use Rattle.std.proofs.lemmas.Bool.{false≢true, both_ways}
+use Rattle.std.proofs.lemmas.Bool.{both_ways}
 use Rattle.nm_rules.specs.Parties.{Party, same_party}
 use Rattle.nm_rules.specs.Owners.{same_owner}
 use Rattle.nm_rules.specs.Seqids.{OwnerWord, owner_at, put_owner, owners_after, owner_left}

@@ -1,14 +1,13 @@
 -- An owner comes back to a seqid only after all others: each is the next one of the one before it.
 use Rattle.std.proofs.Common.{◌≡◌, ◌<◌, ◌≤◌, ◌+◌, ℕ, zero, suc, Bool, true, false, cond, List, [], ◌∷◌, Option, Some, None, refl, ap, sym, ◌∙◌, inl, inr, arith, eqb-true}
 use Rattle.std.specs.Prelude.{◌==◌, ◌&&◌, ◌⊎◌, slice_get}
-use Rattle.std.proofs.lemmas.Bool.{eqb-false}
 use Rattle.nm_rules.specs.Parties.{same_party}
 use Rattle.nm_rules.specs.Owners.{same_owner}
 use Rattle.nm_rules.specs.Repeats.{same_call}
 use Rattle.nm_rules.specs.Shares.{next_seqid}
-use Rattle.nm_rules.specs.Seqids.{advances, seqid_of, judged, is_fresh, without_recalls}
+use Rattle.nm_rules.specs.Seqids.{advances, seqid_of, judged, is_fresh}
 use Rattle.nm_rules.specs.OwnerReadings.{is_owner, moves_on, confirmed_by, was_confirmed, owner_now, seqids_of}
-use Rattle.nm_rules.specs.Past.{Past, Now, now, judgement, judgement_for, seqid_owner}
+use Rattle.nm_rules.specs.Past.{Past, Now, now, judgement_for, seqid_owner}
 use Rattle.nm_rules.specs.declared.calls.Call.{Call}
 use Rattle.nm_rules.specs.declared.calls.Event.{Event}
 use Rattle.nm_rules.specs.declared.calls.Event.TheVariants.{Asked, Ended}

@@ -21,6 +21,7 @@ pub mod Seen
 pub mod Seqids
 pub mod Shares
 pub mod Sound
+pub mod StateidReadings
 pub mod Stateids
 pub mod Statuses
 pub mod Wire

@@ -1,6 +1,6 @@
 -- What is known of an owner, in the standard's words, read off the entries alone (RFC 7530, 9.1.7 and 16.18).
 use Rattle.std.specs.Prelude.{ℕ, Bool, true, false, List, [], ◌∷◌, filter, map, Option, Some, None, if◌then◌else◌}
-use Rattle.nm_rules.specs.Parties.{Party, same_party}
+use Rattle.nm_rules.specs.Parties.{same_party}
 use Rattle.nm_rules.specs.Owners.{same_owner}
 use Rattle.nm_rules.specs.Seqids.{advances, seqid_of, is_fresh, without_recalls}
 use Rattle.nm_rules.specs.Past.{Past, Now, now, acts, judgement, seqid_owner, confirms}

@@ -5,7 +5,8 @@ ghost use Rattle.nm_rules.specs.Owners.{same_owner};
 use crate::{
     AccessArgs, AccessOk, Bytes, ChangeInfo, CloseArgs, CommitArgs, CreateArgs, Created,
     GetAttrArgs, GetAttrOk, Instance, Items, LookupArgs, Memory, OpStatus, OpenArgs,
-    OpenConfirmArgs, OpenDowngradeArgs, Opened, ReadArgs, ReadDirArgs, ReadDirOk, ReadOk, RemoveArgs, SetAttrArgs, Words, WriteArgs, WriteOk,
+    OpenConfirmArgs, OpenDowngradeArgs, Opened, ReadArgs, ReadDirArgs, ReadDirOk, ReadOk,
+    RemoveArgs, SetAttrArgs, Words, WriteArgs, WriteOk,
 };
 
 /// What an owner owns (RFC 7530, 9.1.4): opens, or byte-range locks.

@@ -8,11 +8,12 @@ ghost use Rattle.nm_rules.specs.OwnerReadings.{closed_of, counter_list, kept_clo
 ghost use Rattle.nm_rules.specs.Past.{Past, now, judgement};
 ghost use Rattle.nm_rules.specs.Seqids.{owner_at};
 ghost use Rattle.nm_rules.specs.Seen.{Seen, seen, look, after};
-ghost use Rattle.nm_rules.specs.Answer.{IsLegal};
+ghost use Rattle.nm_rules.specs.Answer.{answer, IsLegal};
 ghost use Rattle.nm_rules.specs.Sound.{IsSound};
 ghost use Rattle.nm_rules.specs.Parties.{Party};
 ghost use Rattle.nm_rules.specs.Holders.{holders, has_row, is_among, parties_rise};
 ghost use Rattle.nm_rules.specs.Readings.{share_of, share_in, AreCompatible};
+ghost use Rattle.nm_rules.specs.StateidReadings.{makes, stateids_made, TellsCounter};
 ghost use Rattle.nm_rules.specs.declared.calls.Owner.{Owner as AnyOwner};
 ghost use Rattle.nm_rules.specs.declared.calls.Call.{Call as AnyCall};
 ghost use Rattle.nm_rules.specs.declared.calls.Event.{Event as AnyEvent};
@@ -37,6 +38,14 @@ pub fn tables_keep_shares()
 /// The tables show what stands: each look-up in them gives what the entries leave under its key.
 pub fn tables_show_what_stands()
     ensures { (fs : ℕ) (grants : Bool) (es : Past) → IsLegal fs grants es → look (seen fs grants es) ≡ now es }
+{}
+
+/// The counter of the last stateid is how many were made, one by each OPEN that acted while its owner had no share of the file
+/// (RFC 7530, 16.16); and the k-th one is told with the counter k.
+pub fn stateids_are_counted()
+    ensures last { (fs : ℕ) (grants : Bool) (es : Past) → IsLegal fs grants es → (seen fs grants es).last ≡ stateids_made es }
+    ensures told { (fs : ℕ) (grants : Bool) (es : Past) (event : AnyEvent) → IsLegal fs grants es
+        → makes es event (answer fs grants es event) ≡ true → TellsCounter (answer fs grants es event).value (stateids_made es + 1) }
 {}
 
 /// The tables of a legal list are sound: counters rise up to the last, and all opens may stand together.

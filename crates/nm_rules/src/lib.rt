@@ -37,9 +37,9 @@ pub use cause::Cause;
 pub use instance::{Instance, NameFault, Principal};
 pub use items::{Bytes, Items};
 pub use laws::{
-    closed_opens_are_kept_closes, files_read_as_written, holders_have_rows,
-    legal_tables_are_sound, owners_are_kept_as_noted, repeats_change_nothing, rows_grow_by_two, seqids_are_apart, shares_never_conflict,
-    tables_keep_shares, tables_show_what_stands,
+    closed_opens_are_kept_closes, files_read_as_written, holders_have_rows, legal_tables_are_sound,
+    owners_are_kept_as_noted, repeats_change_nothing, rows_grow_by_two, seqids_are_apart,
+    shares_never_conflict, stateids_are_counted, tables_keep_shares, tables_show_what_stands,
 };
 pub use memory::{Memory, Refusal};
 pub use numbers::{Epoch, Era, FsNum, MoveNum, ServerNum};

@@ -37,7 +37,11 @@ impl OwnerRow {
     pub fn judge(&self, seqid: u32, call: &Call) -> Judgement
         ensures { result ≡ judged (Some self.now) seqid call.now.caller call.now.file call.now.deed }
     {
-        let next = if self.seqid == u32::MAX { 1 } else { self.seqid + 1 };
+        let next = if self.seqid == u32::MAX {
+            1
+        } else {
+            self.seqid + 1
+        };
         if seqid == next {
             Judgement::Fresh
         } else if seqid == self.seqid && call.repeats(&self.call) {
