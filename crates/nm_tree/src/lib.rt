@@ -7,8 +7,6 @@ mod checks;
 mod listing;
 mod names;
 mod rows;
-#[cfg(test)]
-mod tests;
 mod tree;
 
 pub use listing::{Listed, Listing};

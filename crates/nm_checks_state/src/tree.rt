@@ -1,6 +1,6 @@
 //! Names, bytes and limits, with expected answers from RFC 7530, 12, 13.1 and 16.
-use crate::{Listed, Listing, Tree};
 use nm_rules::{Bytes, FileAttrs, OpStatus, Refusal};
+use nm_tree::{Listed, Listing, Tree};
 use std::alloc::Global;
 use std::process::Abort;
 use std::test::Fail;

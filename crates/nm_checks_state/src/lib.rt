@@ -1,0 +1,7 @@
+//! Tests of what makes up a file system's state, and of a file system at a server: worked answers of the standard, and each call
+//! that allocates run once. Nothing stands on this crate. The proofs of the crates that it tests don't wait for it, and it doesn't
+//! repeat them.
+#![tactic(auto)]
+
+#[cfg(test)]
+mod tree;
