@@ -89,6 +89,7 @@ pub fn next_state(rows: &[OpenRow], counter: u64) -> State
 pub enum Change {
     /// A further OPEN joins its access and deny.
     Joined { access: u32, deny: u32 },
+    /// An OPEN_CONFIRM leaves both as they are.
     Renewed,
     /// An OPEN_DOWNGRADE leaves that access and deny.
     Narrowed { access: u32, deny: u32 },
@@ -136,9 +137,9 @@ pub fn renew(rows: &mut Vec<OpenRow>, counter: u64, change: Change)
     change_each(rows, counter, change);
 }
 
-// Access is 1 to 3, and deny 0 to 3.
+/// Access is 1 to 3, and deny 0 to 3.
 #[tactic(auto, unfolding(nm_rules::specs::Opens::is_share))]
-fn is_share(access: u32, deny: u32) -> bool
+pub fn is_share(access: u32, deny: u32) -> bool
     ensures { result ≡ is_share access deny }
 {
     1 <= access && access <= 3 && deny <= 3
