@@ -4,4 +4,8 @@
 #![tactic(auto)]
 
 #[cfg(test)]
+mod owners;
+#[cfg(test)]
+mod shares;
+#[cfg(test)]
 mod tree;

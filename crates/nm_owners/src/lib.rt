@@ -4,8 +4,6 @@
 
 mod owners;
 mod rows;
-#[cfg(test)]
-mod tests;
 
 pub use nm_rules::Judgement;
 pub use owners::Owners;

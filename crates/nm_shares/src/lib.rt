@@ -4,8 +4,6 @@
 mod rows;
 mod shares;
 mod state;
-#[cfg(test)]
-mod tests;
 
 pub use rows::{is_narrower, seqid_after};
 pub use shares::Shares;

@@ -1,5 +1,5 @@
 //! Seqids, kept replies and confirmation, with expected answers from RFC 7530, 9.1.7 and 16.18.
-use crate::{Judgement, Owners};
+use nm_owners::{Judgement, Owners};
 use nm_rules::{
     Bytes, Call, Claim, Deed, Instance, Items, OpStatus, OpenArgs, OpenConfirmArgs, OpenType,
     Owner, OwnerKind, Principal, Recall, Recalls, Reply, ReplyValue, StateId, StateRef,

@@ -1,9 +1,19 @@
 //! Opens of two owners, with expected answers from RFC 7530, 9.9, 16.16, 16.18 and 16.19.
-use crate::rows::is_share;
-use crate::{Shares, State};
+ghost use Rattle.std.specs.Prelude.{◌≡◌};
+ghost use Rattle.nm_rules.specs.Opens.{is_share};
+
 use nm_rules::{Bytes, FsNum, Instance, OpStatus, Owner, OwnerKind, Principal, Refusal};
+use nm_shares::{Shares, State};
 use std::alloc::Global;
 use std::test::Fail;
+
+// Access is 1 to 3, and deny 0 to 3.
+#[tactic(auto, unfolding(nm_rules::specs::Opens::is_share))]
+fn is_share(access: u32, deny: u32) -> bool
+    ensures { result ≡ is_share access deny }
+{
+    1 <= access && access <= 3 && deny <= 3
+}
 
 // An owner: the letter of its client, and its text.
 type Who = (u8, u8);
