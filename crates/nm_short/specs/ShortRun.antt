@@ -1,13 +1,16 @@
 -- The run of a script without messages: each call of a client reaches a server at once, and its reply the client; what
 -- the servers of a move send one another is delivered by the lines `commit` and `settle`. A file system is nothing but
 -- the list of its servers' steps.
-use Rattle.std.specs.Prelude.{ℕ, zero, suc, ◌+◌, Bool, true, false, List, [], ◌∷◌, ◌++◌, map, Option, Some, None, option_map, unwrap_or, slice_get, slice_set, if◌then◌else◌}
+use Rattle.std.specs.Prelude.{ℕ, zero, suc, ◌+◌, Bool, true, false, List, [], ◌∷◌, ◌++◌, ◌==◌, not, bit_and, map, Option, Some, None, option_map, unwrap_or, slice_get, slice_set, if◌then◌else◌}
 use Rattle.nm_rules.specs.Actions.{verb_of, fs_of}
 use Rattle.nm_rules.specs.Answer.{reply_with, refused_value}
 use Rattle.nm_rules.specs.Held.{held_table}
+use Rattle.nm_rules.specs.Parties.{Party}
 use Rattle.nm_rules.specs.Past.{is_done}
+use Rattle.nm_rules.specs.Shares.{next_seqid}
 use Rattle.nm_rules.specs.declared.action.Action.{Action}
 use Rattle.nm_rules.specs.declared.action.Action.TheVariants as action
+use Rattle.nm_rules.specs.declared.args.OpenArgs.{OpenArgs}
 use Rattle.nm_rules.specs.declared.args.ReadDirArgs.{ReadDirArgs}
 use Rattle.nm_rules.specs.declared.calls.Call.{Call}
 use Rattle.nm_rules.specs.declared.calls.Deed.{Deed}
@@ -18,6 +21,7 @@ use Rattle.nm_rules.specs.declared.calls.ReplyValue.{ReplyValue}
 use Rattle.nm_rules.specs.declared.calls.ReplyValue.TheVariants as value
 use Rattle.nm_rules.specs.declared.cause.Cause.TheVariants as cause
 use Rattle.nm_rules.specs.declared.results.DirEntry.{DirEntry}
+use Rattle.nm_rules.specs.declared.results.Opened.{Opened}
 use Rattle.nm_rules.specs.declared.results.ReadDirOk.{ReadDirOk}
 use Rattle.nm_rules.specs.declared.status.OpStatus.{OpStatus}
 use Rattle.nm_rules.specs.declared.status.OpStatus.TheVariants as status
@@ -54,7 +58,7 @@ use Rattle.nm_slot.specs.Phases.{Phase, Moment, phase_now, source_of}
 use Rattle.nm_slot.specs.Phases.Phase.{At, Closing, Frozen, Passing}
 use Rattle.nm_slot.specs.SlotNow.{SlotView, SlotStep}
 use Rattle.nm_slot.specs.SlotNow.SlotStep.{Entering, Leaving, Applying, Beginning, Freezing, Imaging, Committing, Abandoning, Accepting, Installing}
-use Rattle.nm_short.specs.Known.{Known, knows_nothing, learned, call_of, list_call, place_of, sent_to, hand_of, put_down, taken_up}
+use Rattle.nm_short.specs.Known.{Known, knows_nothing, learned, call_of, confirm_call, list_call, place_of, sent_to, hand_of, put_down, taken_up}
 
 -- ---- a file system
 
@@ -240,32 +244,44 @@ last_cookie cookie (entry ∷ entries) = last_cookie entry.cookie entries
 abbrev pub more_of : ReadDirArgs → ReadDirOk → Option Call
 more_of args ok = if ok.eof then None else Some (list_call (last_cookie args.cookie ok.entries))
 
-unfoldable pub goes_on_with : Deed → ReplyValue → Option Call
-goes_on_with (deed.ReadDir args) (value.ReadDir (Some ok)) = more_of args ok
-goes_on_with _ _ = None
+-- After an OPEN whose flags have 2 its owner has to be confirmed, with the next seqid (RFC 7530, 16.18).
+abbrev pub confirms : Option Party → OpenArgs → Opened → Option Call
+confirms caller args opened =
+    if not (bit_and opened.ok.rflags 2 == 0) then Some (confirm_call caller opened (next_seqid args.seqid)) else None
+
+-- what goes on with an operation of that caller
+unfoldable pub goes_on_by : Option Party → Deed → ReplyValue → Option Call
+goes_on_by caller (deed.ReadDir args) (value.ReadDir (Some ok)) = more_of args ok
+goes_on_by caller (deed.Open args) (value.Open (Some opened)) = confirms caller args opened
+goes_on_by caller _ _ = None
+
+abbrev pub goes_on_with : Call → ReplyValue → Option Call
+goes_on_with call its_value = goes_on_by call.caller call.deed its_value
 
 -- the names that a reply lists
 unfoldable pub names_of : ReplyValue → List (List ℕ)
 names_of (value.ReadDir (Some ok)) = map (λ entry. entry.name) ok.entries
 names_of _ = []
 
--- What came of a request and of those that go on with it, so many at most: the last reply, none where there were more to
--- make, and the names that all of them listed.
+-- What came of an action's first request and of those that go on with it, so many at most: what the clients know, the last
+-- reply, none where there were more to make, and the names that all of them listed. The client learns from each reply.
 pub record Asked : Type 0 where
   pub file : FileNow
+  pub known : Known
   pub reply : Option Reply
   pub names : List (List ℕ)
 
-unfoldable pub asks : ℕ → FileNow → ℕ → ℕ → Call → List (List ℕ) → Asked
-asks zero f s epoch call names = record { file = f; reply = None; names = names }
-asks (suc n) f s epoch call names =
+unfoldable pub asks : ℕ → FileNow → ℕ → ℕ → ℕ → Action → Call → Known → List (List ℕ) → Asked
+asks zero f s epoch client act call known names = record { file = f; known = known; reply = None; names = names }
+asks (suc n) f s epoch client act call known names =
     let a = apply_answer (at_server f s) epoch call Pass in
     let reply = reply_of call a in
     let now = did f s (Applying epoch call Pass a) in
+    let knows = learned client act call.deed reply known in
     let listed = names ++ names_of reply.value in
-    elim (goes_on_with call.deed reply.value) [
-      | None ↦ record { file = now; reply = Some reply; names = listed }
-      | Some next ↦ asks n now s epoch next listed
+    elim (goes_on_with call reply.value) [
+      | None ↦ record { file = now; known = knows; reply = Some reply; names = listed }
+      | Some next ↦ asks n now s epoch client act next knows listed
     ]
 
 -- what a client is told of an OK
@@ -286,15 +302,15 @@ unfoldable pub after_asking : FileNow → ℕ → Action → Known → List (Lis
 after_asking f client act known names None = stays_in_hand f client act known told.Stopped
 after_asking f client act known names (Some reply) = record {
   file = f;
-  known = learned client act reply (record known { in_hand = put_down client known.in_hand });
+  known = record known { in_hand = put_down client known.in_hand };
   told = told_by reply names;
 }
 
 -- with the pass the calls are made, and the pass comes back
 unfoldable pub calls_at : FileNow → ℕ → ℕ → ℕ → Action → Call → Known → Tried
 calls_at f s epoch client act call known =
-    let asked = asks requests_limit f s epoch call [] in
-    after_asking (did asked.file s (Leaving epoch)) client act known asked.names asked.reply
+    let asked = asks requests_limit f s epoch client act call known [] in
+    after_asking (did asked.file s (Leaving epoch)) client act asked.known asked.names asked.reply
 
 -- A file system that the server doesn't know: where a client looks it up by name it isn't there, and what it has a handle of
 -- is stale.
@@ -302,6 +318,7 @@ unfoldable pub unknown_status : Action → OpStatus
 unknown_status (action.Open _) = status.NoEnt
 unknown_status (action.Create _) = status.NoEnt
 unknown_status (action.Close _) = status.Stale
+unknown_status (action.Downgrade _) = status.Stale
 unknown_status (action.Read _) = status.Stale
 unknown_status (action.Write _) = status.Stale
 unknown_status (action.Size _) = status.Stale
