@@ -349,13 +349,16 @@ module _ (head : Head) (verb f file first second owner : List ℕ) (a : Action) 
       (by_verb (IsAsked head) verb (codes "create") five a _ _
       (made_found head (codes "create") five (open_action head f file first second owner) actions.Create a
       (λ o e. let p = open_found head f file first second owner o e in (ap (λ (ws : List (List ℕ)). codes "create" ∷ ws) p.0, p.1)))
+      (by_verb (IsAsked head) verb (codes "downgrade") five a _ _
+      (made_found head (codes "downgrade") five (open_action head f file first second owner) actions.Downgrade a
+      (λ o e. let p = open_found head f file first second owner o e in (ap (λ (ws : List (List ℕ)). codes "downgrade" ∷ ws) p.0, p.1)))
       (by_verb (IsAsked head) verb (codes "read") five a _ _
       (made_found head (codes "read") five (read_action head f file first second owner) actions.Read a
       (λ r e. let p = read_found head f file first second owner r e in (ap (λ (ws : List (List ℕ)). codes "read" ∷ ws) p.0, p.1)))
       (by_verb (IsAsked head) verb (codes "write") five a _ _
       (made_found head (codes "write") five (write_action head f file first second owner) actions.Write a
       (λ w e. let p = write_found head f file first second owner w e in (ap (λ (ws : List (List ℕ)). codes "write" ∷ ws) p.0, p.1)))
-      (λ e. absurd cc))))
+      (λ e. absurd cc)))))
 
 action_found : (head : Head) (verb : List ℕ) (words : List (List ℕ)) (a : Action) → action_at head verb words ≡ Ok a → IsAsked head (verb ∷ words) a
 unfolding action_at
@@ -463,6 +466,7 @@ unfolding run_line do_at action_line finish_line fs_at fs_line fs_to_line action
 run_again head (Do client (actions.Open a)) names is = rw (open_again head a names is.1, client_again head client names is.0) refl
 run_again head (Do client (actions.Create a)) names is = rw (open_again head a names is.1, client_again head client names is.0) refl
 run_again head (Do client (actions.Close a)) names is = rw (close_again head a names is.1, client_again head client names is.0) refl
+run_again head (Do client (actions.Downgrade a)) names is = rw (open_again head a names is.1, client_again head client names is.0) refl
 run_again head (Do client (actions.Read a)) names is = rw (read_again head a names is.1, client_again head client names is.0) refl
 run_again head (Do client (actions.Write a)) names is = rw (write_again head a names is.1, client_again head client names is.0) refl
 run_again head (Do client (actions.Size a)) names is = rw (size_again head a names is.1, client_again head client names is.0) refl
@@ -513,6 +517,7 @@ action_are_words : (head : Head) (a : Action) → HasNames head → IsAction hea
 action_are_words head (actions.Open a) names is = (keyword (codes "open") (omega arith) refl, open_are_words head a names is)
 action_are_words head (actions.Create a) names is = (keyword (codes "create") (omega arith) refl, open_are_words head a names is)
 action_are_words head (actions.Close a) names is = (keyword (codes "close") (omega arith) refl, close_are_words head a names is)
+action_are_words head (actions.Downgrade a) names is = (keyword (codes "downgrade") (omega arith) refl, open_are_words head a names is)
 action_are_words head (actions.Read a) names is = (keyword (codes "read") (omega arith) refl, read_are_words head a names is)
 action_are_words head (actions.Write a) names is = (keyword (codes "write") (omega arith) refl, write_are_words head a names is)
 action_are_words head (actions.Size a) names is = (keyword (codes "size") (omega arith) refl, size_are_words head a names is)

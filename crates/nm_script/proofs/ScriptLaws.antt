@@ -72,7 +72,7 @@ pub record TakesAll (count : ℕ) (d : Draft) (lines : List (List ℕ)) (read : 
   pub said_then : map line_of (said read.0) ≡ map line_of (said d) ++ filter says_something lines
   pub is : IsDraft read.0
   pub counted : read.1 ≡ count + length lines
-  pub few : read.1 ≤ 4000
+  pub few : read.1 ≤ 200000
 
 same_read : {A : Type 0} (x y : A) → ◌≡◌ {A = Result A ScriptFault} (Ok x) (Ok y) → x ≡ y
 same_read x y e = cc
@@ -88,7 +88,7 @@ filter_one p x xs = either (p x)
     either true = refl
     either false = refl
 
-lines_found : (count : ℕ) (d : Draft) (lines : List (List ℕ)) (read : Draft × ℕ) → IsDraft d → count ≤ 4000 → lines_at count d lines ≡ Ok read → TakesAll count d lines read
+lines_found : (count : ℕ) (d : Draft) (lines : List (List ℕ)) (read : Draft × ℕ) → IsDraft d → count ≤ 200000 → lines_at count d lines ≡ Ok read → TakesAll count d lines read
 unfolding lines_at counted_at
 lines_found count d [] read is few h =
     let e : (d, count) ≡ read = same_read (d, count) read h in
@@ -101,7 +101,7 @@ lines_found count d [] read is few h =
     })
 lines_found count d (line ∷ lines) read is few h =
     let x = bind_ok (counted_at (count + 1) d line) (λ e. lines_at (count + 1) e lines) read h in
-    elim (chosen (ltb 4000 (count + 1)) (Err (faults.At (count + 1) why.Limit)) _ (Ok x.0) x.1) [
+    elim (chosen (ltb 200000 (count + 1)) (Err (faults.At (count + 1) why.Limit)) _ (Ok x.0) x.1) [
       | inl long ↦ absurd cc
       | inr a ↦
           let one = line_found d x.0 line is (in_line_ok (count + 1) (line_at d line) x.0 a.1) in
@@ -217,7 +217,7 @@ runs_are_lines s =
     let before = map server_words s.head.servers ++ map (file_system_words s.head) s.head.file_systems ++ map client_words s.head.clients in
     omega (arith, length-append-ge before (map (run_words s.head) s.lines), length-map s.lines (run_words s.head))
 
-pub script_few : (bytes : List ℕ) (s : Script) → IsScript bytes s → length s.lines ≤ 4000
+pub script_few : (bytes : List ℕ) (s : Script) → IsScript bytes s → length s.lines ≤ 200000
 script_few bytes s is =
     let said_lines : length (filter says_something is.lines) ≡ length (script_words s) = ap length is.spelled ∙ length-map (script_words s) line_of in
     omega (arith, length-filter-le says_something is.lines, said_lines, is.count, runs_are_lines s)
@@ -345,9 +345,9 @@ filter_no p x xs h = rw h refl
 one_more : (m n : ℕ) → (m + 1) + n ≡ m + suc n
 one_more m n = omega arith
 
-counted_ok : (count : ℕ) (d e : Draft) (line : List ℕ) → count + 1 ≤ 4000 → line_at d line ≡ Ok e → counted_at (count + 1) d line ≡ Ok e
+counted_ok : (count : ℕ) (d e : Draft) (line : List ℕ) → count + 1 ≤ 200000 → line_at d line ≡ Ok e → counted_at (count + 1) d line ≡ Ok e
 unfolding counted_at
-counted_ok count d e line few h = rw (le-ltb 4000 (count + 1) few, h) refl
+counted_ok count d e line few h = rw (le-ltb 200000 (count + 1) few, h) refl
 
 no_lines_again : (count : ℕ) (d e : Draft) (words : List (List (List ℕ))) → [] ≡ map line_of words → take_all d words ≡ Ok e → ◌≡◌ {A = Result (Draft × ℕ) ScriptFault} (Ok (d, count)) (Ok (e, count + 0))
 no_lines_again count d e [] same taken =
@@ -355,7 +355,7 @@ no_lines_again count d e [] same taken =
     rw (← whole, ok_is d e taken) refl
 no_lines_again count d e (words ∷ more) same taken = absurd cc
 
-says_again : (count : ℕ) (d e : Draft) (line : List ℕ) (lines : List (List ℕ)) (words : List (List (List ℕ))) → IsSourceLine line → count + 1 ≤ 4000 → says_something line ≡ true
+says_again : (count : ℕ) (d e : Draft) (line : List ℕ) (lines : List (List ℕ)) (words : List (List (List ℕ))) → IsSourceLine line → count + 1 ≤ 200000 → says_something line ≡ true
     → line ∷ filter says_something lines ≡ map line_of words → AllByRecursion IsSpelled words → take_all d words ≡ Ok e
     → ((c : Draft) (more : List (List (List ℕ))) → filter says_something lines ≡ map line_of more → AllByRecursion IsSpelled more → take_all c more ≡ Ok e → lines_at (count + 1) c lines ≡ Ok (e, count + suc (length lines)))
     → lines_at count d (line ∷ lines) ≡ Ok (e, count + suc (length lines))
@@ -368,7 +368,7 @@ says_again count d e line lines (words ∷ more) source few says same spelled ta
     let read : line_at d line ≡ Ok x.0 = line_says d line source says ∙ ap (λ l. take_words d (words_of l)) line_is ∙ ap (take_words d) spelled.0 ∙ x.1 in
     rw (counted_ok count d x.0 line few read) (later x.0 more rest spelled.1 x.2)
 
-lines_again : (count : ℕ) (d e : Draft) (lines : List (List ℕ)) (words : List (List (List ℕ))) → AllByRecursion IsSourceLine lines → count + length lines ≤ 4000
+lines_again : (count : ℕ) (d e : Draft) (lines : List (List ℕ)) (words : List (List (List ℕ))) → AllByRecursion IsSourceLine lines → count + length lines ≤ 200000
     → filter says_something lines ≡ map line_of words → AllByRecursion IsSpelled words → take_all d words ≡ Ok e → lines_at count d lines ≡ Ok (e, count + length lines)
 unfolding lines_at
 lines_again count d e [] words source few same spelled taken = no_lines_again count d e words same taken
@@ -399,7 +399,7 @@ pub sound : (bytes : List ℕ) (result : Result Script ScriptFault) → Tells re
 sound bytes (Ok s) h = (script_found bytes s h).fits
 sound bytes (Err fault) h = tt
 
-pub few : (bytes : List ℕ) (result : Result Script ScriptFault) → Tells result (script_at bytes) → IfOk result (λ s. length s.lines ≤ 4000)
+pub few : (bytes : List ℕ) (result : Result Script ScriptFault) → Tells result (script_at bytes) → IfOk result (λ s. length s.lines ≤ 200000)
 few bytes (Ok s) h = script_few bytes s (script_found bytes s h)
 few bytes (Err fault) h = tt
 

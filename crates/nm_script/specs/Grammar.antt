@@ -84,12 +84,13 @@ size_words head a = name_at (file_system_names head) a.fs ∷ a.file ∷ decimal
 abbrev pub file_words : Head → NameAction → List (List ℕ)
 file_words head a = name_at (file_system_names head) a.fs ∷ a.file ∷ []
 
--- open F FILE ACC DENY OWNER, create F FILE ACC DENY OWNER, close F FILE OWNER, read F FILE OFFSET COUNT OWNER,
--- write F FILE OFFSET HEX OWNER, size F FILE N OWNER, remove F FILE, mkdir F FILE, list F
+-- open F FILE ACC DENY OWNER, create F FILE ACC DENY OWNER, close F FILE OWNER, downgrade F FILE ACC DENY OWNER,
+-- read F FILE OFFSET COUNT OWNER, write F FILE OFFSET HEX OWNER, size F FILE N OWNER, remove F FILE, mkdir F FILE, list F
 abbrev pub action_words : Head → Action → List (List ℕ)
 action_words head (actions.Open a) = codes "open" ∷ open_words head a
 action_words head (actions.Create a) = codes "create" ∷ open_words head a
 action_words head (actions.Close a) = codes "close" ∷ close_words head a
+action_words head (actions.Downgrade a) = codes "downgrade" ∷ open_words head a
 action_words head (actions.Read a) = codes "read" ∷ read_words head a
 action_words head (actions.Write a) = codes "write" ∷ write_words head a
 action_words head (actions.Size a) = codes "size" ∷ size_words head a
@@ -236,6 +237,7 @@ abbrev pub IsAction : Head → Action → Type 0
 IsAction head (actions.Open a) = IsOpen head a
 IsAction head (actions.Create a) = IsOpen head a
 IsAction head (actions.Close a) = IsClose head a
+IsAction head (actions.Downgrade a) = IsOpen head a
 IsAction head (actions.Read a) = IsRead head a
 IsAction head (actions.Write a) = IsWrite head a
 IsAction head (actions.Size a) = IsSize head a
@@ -267,13 +269,13 @@ pub record IsSourceLine (line : List ℕ) : Type 0 where
   pub short : length line ≤ 4096
   pub printable : is_printable line ≡ true
 
--- The bytes spell the script: they are at most 16 MiB and at most 4,000 lines, of which those that say something are
+-- The bytes spell the script: they are at most 16 MiB and at most 200,000 lines, of which those that say something are
 -- the lines of the script, in order. The others are empty or begin with #, and stand anywhere.
 pub record IsScript (bytes : List ℕ) (s : Script) : Type 0 where
   pub lines : List (List ℕ)
   pub split : IsLines bytes lines
   pub size : length bytes ≤ 2 ^ 24
-  pub count : length lines ≤ 4000
+  pub count : length lines ≤ 200000
   pub each : All IsSourceLine lines
   pub spelled : filter says_something lines ≡ map line_of (script_words s)
   pub fits : IsWellFormed s

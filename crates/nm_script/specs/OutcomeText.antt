@@ -62,6 +62,7 @@ unfoldable pub verb_text : Verb → List ℕ
 verb_text verbs.Open = codes "open"
 verb_text verbs.Create = codes "create"
 verb_text verbs.Close = codes "close"
+verb_text verbs.Downgrade = codes "downgrade"
 verb_text verbs.Read = codes "read"
 verb_text verbs.Write = codes "write"
 verb_text verbs.Size = codes "size"

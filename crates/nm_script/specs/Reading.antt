@@ -189,6 +189,7 @@ unfoldable pub open_at : Head → List ℕ → List ℕ → List ℕ → List �
 open_at head verb f file first second owner =
     if bytes_eq verb (codes "open") then (open_action head f file first second owner >>= λ a. Ok (actions.Open a)) else
     if bytes_eq verb (codes "create") then (open_action head f file first second owner >>= λ a. Ok (actions.Create a)) else
+    if bytes_eq verb (codes "downgrade") then (open_action head f file first second owner >>= λ a. Ok (actions.Downgrade a)) else
     if bytes_eq verb (codes "read") then (read_action head f file first second owner >>= λ a. Ok (actions.Read a)) else
     if bytes_eq verb (codes "write") then (write_action head f file first second owner >>= λ a. Ok (actions.Write a)) else
     Err why.Word
@@ -375,9 +376,9 @@ abbrev pub in_line : {X : Type 0} → ℕ → Result X Why → Result X ScriptFa
 in_line number (Ok x) = Ok x
 in_line number (Err w) = Err (faults.At number w)
 
--- the line of that number, from 1: there are at most 4,000
+-- the line of that number, from 1: there are at most 200,000
 unfoldable pub counted_at : ℕ → Draft → List ℕ → Result Draft ScriptFault
-counted_at number d line = if nat_lt 4000 number then Err (faults.At number why.Limit) else in_line number (line_at d line)
+counted_at number d line = if nat_lt 200000 number then Err (faults.At number why.Limit) else in_line number (line_at d line)
 
 -- the lines in order, behind so many others
 unfoldable pub lines_at : ℕ → Draft → List (List ℕ) → Result (Draft × ℕ) ScriptFault

@@ -68,6 +68,7 @@ fn verb_word(verb: Verb) -> &'static [u8]
         Verb::Open => b"open",
         Verb::Create => b"create",
         Verb::Close => b"close",
+        Verb::Downgrade => b"downgrade",
         Verb::Read => b"read",
         Verb::Write => b"write",
         Verb::Size => b"size",

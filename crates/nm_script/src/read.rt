@@ -13,7 +13,7 @@ use std::alloc::Global;
 const SOURCE_LIMIT: usize = 16_777_216;
 
 /// How many lines a source may have.
-const LINE_LIMIT: u64 = 4000;
+const LINE_LIMIT: u64 = 200_000;
 
 /// The first line, without its line feed, and the bytes behind it.
 fn first_line(bytes: &[u8]) -> (&[u8], &[u8])
@@ -41,7 +41,7 @@ fn ended(bytes: &[u8]) -> &[u8]
 #[tactic(auto, unfolding(crate::specs::Reading::counted_at))]
 fn take_counted(alloc: Global, draft: Draft, number: u64, line: &[u8]) -> Result<Draft, ScriptFault>
     ensures told { Tells result (spec.counted_at number draft line.now) }
-    ensures within { OnOk result (number ≤ 4000) }
+    ensures within { OnOk result (number ≤ 200000) }
 {
     if number > LINE_LIMIT {
         return Err(ScriptFault::At {
@@ -60,7 +60,7 @@ fn take_counted(alloc: Global, draft: Draft, number: u64, line: &[u8]) -> Result
 #[tactic(auto, unfolding(crate::specs::Reading::lines_at))]
 fn read_lines(alloc: Global, bytes: &[u8]) -> Result<(Draft, u64), ScriptFault>
     ensures told { Tells result (spec.lines_at 0 spec.nothing_yet (spec.lines_of bytes.now)) }
-    ensures within { IfOk result (λ read. read.1 ≤ 4000) }
+    ensures within { IfOk result (λ read. read.1 ≤ 200000) }
 {
     let mut draft = Draft::new(alloc);
     let mut count = 0;
@@ -126,7 +126,7 @@ pub fn read_script(alloc: Global, bytes: &[u8]) -> Result<Script, ScriptFault>
     ensures exact { Tells result (spec.script_at bytes.now) }
     // Its numbers are in their bounds and stand for something, and its names are in their form and given once.
     ensures sound { IfOk result IsWellFormed }
-    ensures few_lines { IfOk result (λ s. length s.lines ≤ 4000) }
+    ensures few_lines { IfOk result (λ s. length s.lines ≤ 200000) }
 {
     read_source(alloc, bytes)
 }

@@ -218,7 +218,7 @@ fn set_size(
     Ok(Action::Size(size))
 }
 
-/// `open F FILE ACC DENY OWNER`, the same with `create`, `read F FILE OFFSET COUNT OWNER` or
+/// `open F FILE ACC DENY OWNER`, the same with `create` or `downgrade`, `read F FILE OFFSET COUNT OWNER` or
 /// `write F FILE OFFSET HEX OWNER`.
 #[tactic(auto, unfolding(crate::specs::Reading::open_at))]
 fn on_open(
@@ -240,6 +240,10 @@ fn on_open(
     if is_word(verb, b"create") {
         let opens = open_action(alloc, head, fs, file, first, second, owner)?;
         return Ok(Action::Create(opens));
+    }
+    if is_word(verb, b"downgrade") {
+        let narrows = open_action(alloc, head, fs, file, first, second, owner)?;
+        return Ok(Action::Downgrade(narrows));
     }
     if is_word(verb, b"read") {
         let reads = read_action(alloc, head, fs, file, first, second, owner)?;

@@ -6,7 +6,7 @@ use Rattle.nm_script.proofs.read.read_lines.Given as goal
 abbrev pub invariant-loop-rest : goal.invariant-loop-rest
 invariant-loop-rest l = record {
   told : lines_at l.count l.draft (lines_of l.rest) ≡ lines_at 0 nothing_yet (lines_of l.bytes);
-  few : l.count ≤ 4000;
+  few : l.count ≤ 200000;
 }
 
 abbrev pub decreases-loop-rest : goal.decreases-loop-rest
