@@ -118,6 +118,16 @@ fn move_on(
     Ok(())
 }
 
+// An owner of a client holds that open on the file.
+fn is_held_of(row: &HeldOpen, client: u32, fs: FsNum, owner: &[u8], file: &[u8]) -> bool
+    ensures { result ≡ is_held_of client fs owner.now file.now row.now }
+{
+    row.client == client
+        && row.fs == fs
+        && row.owner.items() == owner
+        && row.file.items() == file
+}
+
 // What an owner of a client holds on a file.
 #[tactic(auto, unfolding(crate::specs::Known::held_of))]
 fn find_held<'a>(
@@ -129,20 +139,15 @@ fn find_held<'a>(
 ) -> Option<&'a HeldOpen>
     ensures { option_copied result ≡ held_of client fs owner.now file.now rows.now }
 {
-    rows.iter().find(|row| row.client == client
-        && row.fs == fs
-        && row.owner.items() == owner
-        && row.file.items() == file)
+    rows.iter()
+        .find(|row| is_held_of(row, client, fs, owner, file))
 }
 
 // What all others hold.
 fn drop_held(rows: &mut Vec<HeldOpen>, client: u32, fs: FsNum, owner: &[u8], file: &[u8])
     ensures { rows.new.items ≡ others_held client fs owner.now file.now rows.old.items }
 {
-    rows.retain(|row| !(row.client == client
-        && row.fs == fs
-        && row.owner.items() == owner
-        && row.file.items() == file));
+    rows.retain(|row| !is_held_of(row, client, fs, owner, file));
 }
 
 // What the reply to an OPEN leaves in a client's hands.
@@ -190,16 +195,6 @@ fn told_stateid(value: &ReplyValue) -> Option<StateId>
         ReplyValue::OpenConfirm(stateid) | ReplyValue::OpenDowngrade(stateid) => *stateid,
         _ => None,
     }
-}
-
-// An owner of a client holds that open on the file.
-fn is_held_of(row: &HeldOpen, client: u32, fs: FsNum, owner: &[u8], file: &[u8]) -> bool
-    ensures { result ≡ is_held_of client fs owner.now file.now row.now }
-{
-    row.client == client
-        && row.fs == fs
-        && row.owner.items() == owner
-        && row.file.items() == file
 }
 
 // What an owner holds on the file has that stateid then.
