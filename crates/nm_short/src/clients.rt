@@ -122,10 +122,7 @@ fn move_on(
 fn is_held_of(row: &HeldOpen, client: u32, fs: FsNum, owner: &[u8], file: &[u8]) -> bool
     ensures { result ≡ is_held_of client fs owner.now file.now row.now }
 {
-    row.client == client
-        && row.fs == fs
-        && row.owner.items() == owner
-        && row.file.items() == file
+    row.client == client && row.fs == fs && row.owner.items() == owner && row.file.items() == file
 }
 
 // What an owner of a client holds on a file.

@@ -241,8 +241,7 @@ C1 close OK
 ];
 
 // The script of these lines behind that head.
-fn script_of(alloc: Global, lines: &[u8]) -> Result<Vec<u8>, Memory>
-{
+fn script_of(alloc: Global, lines: &[u8]) -> Result<Vec<u8>, Memory> {
     let mut script = Vec::from_slice(alloc, HEAD)?;
     script.extend_from_slice(lines)?;
     Ok(script)
