@@ -10,7 +10,7 @@ use Rattle.nm_rules.specs.declared.results.DirEntry.{DirEntry}
 use Rattle.nm_slot.specs.Answers.{apply_answer}
 use Rattle.nm_slot.specs.SlotNow.SlotStep.{Applying}
 use Rattle.nm_short.specs.Known.{Known, learned}
-use Rattle.nm_short.specs.ShortRun.{reply_of, last_cookie, goes_on_with, names_of}
+use Rattle.nm_short.specs.Requests.{reply_of, last_cookie, goes_on_with, names_of}
 use Rattle.nm_short.specs.Tables.{FileTables, AskedTo, asks_to, slot_in, stepped}
 
 -- ---- requests

@@ -13,7 +13,8 @@ use Rattle.nm_slot.specs.Changes.{slot_after}
 use Rattle.nm_slot.specs.History.{passes_now, is_out}
 use Rattle.nm_slot.specs.SlotNow.SlotStep.{Entering, Leaving, Applying}
 use Rattle.nm_short.specs.Known.{Known, learned, sent_to, place_of}
-use Rattle.nm_short.specs.ShortRun.{FileNow, Asked, Tried, Knocked, at_server, did, knocks, reply_of, goes_on_with, names_of, asks, after_asking, calls_at, at_door, tries, requests_limit}
+use Rattle.nm_short.specs.Requests.{reply_of, goes_on_with, names_of, requests_limit}
+use Rattle.nm_short.specs.ShortRun.{FileNow, Asked, Tried, Knocked, at_server, did, knocks, asks, after_asking, calls_at, at_door, tries}
 use Rattle.nm_short.specs.Tables.{FileTables, AskedTo, TriedTo, KnockedTo, no_part, slot_in, stepped, knocks_to, asks_to, asked_to, calls_to, door_to, tries_to}
 use Rattle.nm_short.proofs.OrderLaws.{kept_inside}
 use Rattle.nm_short.proofs.Standing.{Stands, IsKeptOutside, plain_stands, slot_outside}

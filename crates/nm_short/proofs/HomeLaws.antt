@@ -26,7 +26,8 @@ use Rattle.nm_slot.specs.Moves.{Sent, move_now, latest_offer, latest_handed}
 use Rattle.nm_slot.specs.SlotNow.SlotStep.{Applying, Leaving, Beginning, Freezing, Accepting}
 use Rattle.nm_short.specs.Known.{Known, learned, call_of, hand_of, place_of, sent_to}
 use Rattle.nm_short.specs.RunFacts.{home_of, run_after}
-use Rattle.nm_short.specs.ShortRun.{FileNow, Went, Asked, Knocked, RunNow, Order, at_server, did, reply_of, goes_on_with, names_of, asks, after_asking, source, after_begin, begins, after_freeze, freezes, abandons, after_accept, delivers_offer, commits, delivers_handed, settles, and_then, shifts, knocks, at_door, calls_at, tries, requests_limit, ran_call, acts, starts, goes_on, ran_do, ran_finish, ordered, ran_order, run_line, files_from}
+use Rattle.nm_short.specs.Requests.{reply_of, goes_on_with, names_of, requests_limit}
+use Rattle.nm_short.specs.ShortRun.{FileNow, Went, Asked, Knocked, RunNow, Order, at_server, did, asks, after_asking, source, after_begin, begins, after_freeze, freezes, abandons, after_accept, delivers_offer, commits, delivers_handed, settles, and_then, shifts, knocks, at_door, calls_at, tries, ran_call, acts, starts, goes_on, ran_do, ran_finish, ordered, ran_order, run_line, files_from}
 use Rattle.nm_short.specs.ShortRun.Order.{ToMove, ToFreeze, ToAbandon, ToCommit, ToSettle, ToShift, ToShow}
 use Rattle.nm_short.proofs.ClientLaws.{ask_of, knock_of}
 

@@ -45,7 +45,8 @@ use Rattle.nm_slot.specs.SlotNow.HandedOver.{Committed, Again, Dead}
 use Rattle.nm_slot.specs.SlotNow.SlotStep.{Entering, Leaving, Applying, Beginning, Freezing, Committing, Abandoning, Accepting, Installing}
 use Rattle.nm_slot.specs.SlotNow.Stage.{Away, Here}
 use Rattle.nm_short.specs.Known.{Known, knows_nothing, learned, call_of, place_of, sent_to, hand_of, put_down, taken_up}
-use Rattle.nm_short.specs.ShortRun.{Order, fs_name, phase_shown, phase_row, move_row, abandon_told, requests_limit, reply_of, goes_on_with, names_of, told_by, unknown_status, outcome}
+use Rattle.nm_short.specs.Requests.{requests_limit, reply_of, goes_on_with, names_of, told_by, unknown_status}
+use Rattle.nm_short.specs.ShortRun.{Order, fs_name, phase_shown, phase_row, move_row, abandon_told, outcome}
 use Rattle.nm_short.specs.ShortRun.Order.{ToMove, ToFreeze, ToAbandon, ToCommit, ToSettle, ToShift, ToShow}
 
 -- ---- a file system

@@ -9,7 +9,7 @@ ghost use Rattle.nm_slot.specs.SlotNow.SlotStep.{Applying};
 ghost use Rattle.nm_short.specs.Files.{asked_in, knocked_to, sent_on};
 ghost use Rattle.nm_short.specs.Known.{sent_to, put_down, taken_up};
 ghost use Rattle.nm_short.specs.Runs.{tried_to};
-ghost use Rattle.nm_short.specs.ShortRun.{requests_limit, reply_of, last_cookie, more_of, confirms, goes_on_by, goes_on_with, names_of, told_ok, told_by, unknown_status};
+ghost use Rattle.nm_short.specs.Requests.{requests_limit, reply_of, last_cookie, more_of, confirms, goes_on_by, goes_on_with, names_of, told_ok, told_by, unknown_status};
 ghost use Rattle.nm_short.specs.Tables.{knocks_to, asks_to, asked_to, calls_to, door_to, tries_to, slot_in, stepped};
 
 use crate::clients::{Clients, seqid_after};
@@ -93,7 +93,7 @@ fn reply_of(alloc: Global, call: &Call, answer: Answer) -> Reply
 }
 
 // What is told of a file system that the server doesn't know.
-#[tactic(auto, unfolding(crate::specs::ShortRun::unknown_status))]
+#[tactic(auto, unfolding(crate::specs::Requests::unknown_status))]
 fn unknown_status(action: &Action) -> OpStatus
     ensures { result ≡ unknown_status action.now }
 {
@@ -139,7 +139,7 @@ fn confirms(caller: Option<Instance>, args: &OpenArgs, opened: &Opened) -> Optio
 }
 
 // The request that goes on with an OPEN.
-#[tactic(auto, unfolding(crate::specs::ShortRun::goes_on_by))]
+#[tactic(auto, unfolding(crate::specs::Requests::goes_on_by))]
 fn goes_on_opening(caller: Option<Instance>, args: &OpenArgs, value: &ReplyValue) -> Option<Call>
     ensures { result ≡ goes_on_by caller (OpenDeed args.now) value.now }
 {
@@ -150,7 +150,7 @@ fn goes_on_opening(caller: Option<Instance>, args: &OpenArgs, value: &ReplyValue
 }
 
 // The request that goes on with a READDIR.
-#[tactic(auto, unfolding(crate::specs::ShortRun::goes_on_by))]
+#[tactic(auto, unfolding(crate::specs::Requests::goes_on_by))]
 fn goes_on_listing(
     alloc: Global,
     caller: Option<Instance>,
@@ -166,7 +166,7 @@ fn goes_on_listing(
 }
 
 // The request that goes on with another.
-#[tactic(auto, unfolding(crate::specs::ShortRun::goes_on_by))]
+#[tactic(auto, unfolding(crate::specs::Requests::goes_on_by))]
 fn goes_on_with(alloc: Global, call: &Call, value: &ReplyValue) -> Option<Call>
     ensures { result ≡ goes_on_with call.now value.now }
 {
@@ -191,7 +191,7 @@ fn add_entries(names: &mut Names, entries: &[DirEntry]) -> Result<(), Memory>
 }
 
 // The names that a reply lists, behind others.
-#[tactic(auto, unfolding(crate::specs::ShortRun::names_of))]
+#[tactic(auto, unfolding(crate::specs::Requests::names_of))]
 fn add_names(names: &mut Names, value: &ReplyValue) -> Result<(), Memory>
     ensures { OnOk result (names.new ≡ names.old ++ names_of value.now) }
 {
@@ -210,7 +210,7 @@ fn is_done(status: OpStatus) -> bool
 }
 
 // What a client is told of an OK.
-#[tactic(auto, unfolding(crate::specs::ShortRun::told_ok))]
+#[tactic(auto, unfolding(crate::specs::Requests::told_ok))]
 fn told_ok(value: ReplyValue, names: Names) -> Told
     ensures { result ≡ told_ok value names }
 {
@@ -223,7 +223,7 @@ fn told_ok(value: ReplyValue, names: Names) -> Told
 }
 
 // What a client is told of the last reply, and of the names that all of them listed.
-#[tactic(auto, unfolding(crate::specs::ShortRun::told_by))]
+#[tactic(auto, unfolding(crate::specs::Requests::told_by))]
 fn told_by(reply: Reply, names: Names) -> Told
     ensures { result ≡ told_by reply names }
 {

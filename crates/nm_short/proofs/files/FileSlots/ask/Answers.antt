@@ -1,5 +1,5 @@
 use Rattle.std.proofs.Common.{sym, ◌∙◌}
-use Rattle.nm_short.specs.ShortRun.{requests_limit}
+use Rattle.nm_short.specs.Requests.{requests_limit}
 use Rattle.nm_short.proofs.AskLemmas.{asked_on, asked_last, asked_out}
 use Rattle.nm_short.proofs.files.FileSlots.ask.Goals as goal
 
