@@ -12,8 +12,9 @@ use Rattle.nm_slot.specs.Answers.{enter_answer, apply_answer}
 use Rattle.nm_slot.specs.Changes.{slot_after}
 use Rattle.nm_slot.specs.History.{passes_now, is_out}
 use Rattle.nm_slot.specs.SlotNow.SlotStep.{Entering, Leaving, Applying}
-use Rattle.nm_short.specs.Known.{Known, sent_to, place_of}
-use Rattle.nm_short.specs.ShortRun.{FileNow, Asked, Tried, Knocked, at_server, did, knocks, reply_of, goes_on_with, names_of, asks, after_asking, calls_at, at_door, tries, requests_limit}
+use Rattle.nm_short.specs.Known.{Known, learned, sent_to, place_of}
+use Rattle.nm_short.specs.Requests.{reply_of, goes_on_with, names_of, requests_limit}
+use Rattle.nm_short.specs.ShortRun.{FileNow, Asked, Tried, Knocked, at_server, did, knocks, asks, after_asking, calls_at, at_door, tries}
 use Rattle.nm_short.specs.Tables.{FileTables, AskedTo, TriedTo, KnockedTo, no_part, slot_in, stepped, knocks_to, asks_to, asked_to, calls_to, door_to, tries_to}
 use Rattle.nm_short.proofs.OrderLaws.{kept_inside}
 use Rattle.nm_short.proofs.Standing.{Stands, IsKeptOutside, plain_stands, slot_outside}
@@ -115,52 +116,60 @@ apply_out : (f : FileNow) (s epoch : ℕ) (call : Call) (a : Answer) → passes_
 unfolding passes_now
 apply_out f s epoch call a = rw (eq-eqb s s refl) refl
 
--- the same was asked and listed, what is left stands for the steps, and the pass is out still
+-- the same was asked, learned and listed, what is left stands for the steps, and the pass is out still
 record IsAsked (n s epoch : ℕ) (asked : Asked) (to : AskedTo) : Type 0 where
   file : Stands n asked.file to.file
+  known : to.known ≡ asked.known
   reply : to.reply ≡ asked.reply
   names : to.names ≡ asked.names
   out : is_out epoch (passes_now asked.file.moments s) ≡ true
 
 -- a request that was answered, and what comes of one that goes on with it
-abbrev pub ask_of : (FileNow → Call → List (List ℕ) → Asked) → FileNow → Reply → List (List ℕ) → Option Call → Asked
-ask_of further f reply listed next = elim next [
-  | None ↦ record { file = f; reply = Some reply; names = listed }
-  | Some more ↦ further f more listed
+abbrev pub ask_of : (FileNow → Call → Known → List (List ℕ) → Asked) → FileNow → Known → Reply → List (List ℕ) → Option Call → Asked
+ask_of further f knows reply listed next = elim next [
+  | None ↦ record { file = f; known = knows; reply = Some reply; names = listed }
+  | Some more ↦ further f more knows listed
 ]
 
-abbrev ask_to : (FileTables → Call → List (List ℕ) → AskedTo) → FileTables → Reply → List (List ℕ) → Option Call → AskedTo
-ask_to further t reply listed next = elim next [
-  | None ↦ record { file = t; reply = Some reply; names = listed }
-  | Some more ↦ further t more listed
+abbrev ask_to : (FileTables → Call → Known → List (List ℕ) → AskedTo) → FileTables → Known → Reply → List (List ℕ) → Option Call → AskedTo
+ask_to further t knows reply listed next = elim next [
+  | None ↦ record { file = t; known = knows; reply = Some reply; names = listed }
+  | Some more ↦ further t more knows listed
 ]
 
-ask_same : (n s epoch : ℕ) (further : FileNow → Call → List (List ℕ) → Asked) (further' : FileTables → Call → List (List ℕ) → AskedTo)
-    (f : FileNow) (t : FileTables) (reply : Reply) (listed : List (List ℕ)) (next : Option Call)
-    → ((more : Call) → IsAsked n s epoch (further f more listed) (further' t more listed))
-    → Stands n f t → is_out epoch (passes_now f.moments s) ≡ true → IsAsked n s epoch (ask_of further f reply listed next) (ask_to further' t reply listed next)
-ask_same n s epoch further further' f t reply listed None same stands out = record { file = stands; reply = refl; names = refl; out = out }
-ask_same n s epoch further further' f t reply listed (Some more) same stands out = same more
+ask_same : (n s epoch : ℕ) (further : FileNow → Call → Known → List (List ℕ) → Asked) (further' : FileTables → Call → Known → List (List ℕ) → AskedTo)
+    (f : FileNow) (t : FileTables) (knows : Known) (reply : Reply) (listed : List (List ℕ)) (next : Option Call)
+    → ((more : Call) → IsAsked n s epoch (further f more knows listed) (further' t more knows listed))
+    → Stands n f t → is_out epoch (passes_now f.moments s) ≡ true
+    → IsAsked n s epoch (ask_of further f knows reply listed next) (ask_to further' t knows reply listed next)
+ask_same n s epoch further further' f t knows reply listed None same stands out =
+    record { file = stands; known = refl; reply = refl; names = refl; out = out }
+ask_same n s epoch further further' f t knows reply listed (Some more) same stands out = same more
 
-asks_same : (k n : ℕ) (f : FileNow) (t : FileTables) (s epoch : ℕ) (call : Call) (names : List (List ℕ)) → Stands n f t → s < n
-    → is_out epoch (passes_now f.moments s) ≡ true → IsAsked n s epoch (asks k f s epoch call names) (asks_to k t s epoch call names)
+asks_same : (k n : ℕ) (f : FileNow) (t : FileTables) (s epoch client : ℕ) (act : Action) (call : Call) (known : Known) (names : List (List ℕ)) → Stands n f t → s < n
+    → is_out epoch (passes_now f.moments s) ≡ true
+    → IsAsked n s epoch (asks k f s epoch client act call known names) (asks_to k t s epoch client act call known names)
 unfolding asks asks_to
-asks_same zero n f t s epoch call names stands below out = record { file = stands; reply = refl; names = refl; out = out }
-asks_same (suc k) n f t s epoch call names stands below out =
+asks_same zero n f t s epoch client act call known names stands below out =
+    record { file = stands; known = refl; reply = refl; names = refl; out = out }
+asks_same (suc k) n f t s epoch client act call known names stands below out =
     let a : Answer = apply_answer (at_server f s) epoch call Pass in
     let reply : Reply = reply_of call a in
     let listed : List (List ℕ) = names ++ names_of reply.value in
+    let knows : Known = learned client act call.deed reply known in
     let f' : FileNow = did f s (Applying epoch call Pass a) in
     let t' : FileTables = stepped t s (Applying epoch call Pass a) in
     let after : Stands n f' t' = plain_stands n f t s (Applying epoch call Pass a) stands (record { answered = refl; delivered = out })
     (kept_inside n f t s (Applying epoch call Pass a) stands below) tt refl in
     let still : is_out epoch (passes_now f'.moments s) ≡ true = ap (is_out epoch) (apply_out f s epoch call a) ∙ out in
-    subst (λ v. IsAsked n s epoch (asks (suc k) f s epoch call names)
-    (ask_to (λ u more its. asks_to k u s epoch more its) (stepped t s (Applying epoch call Pass (apply_answer v epoch call Pass)))
+    subst (λ v. IsAsked n s epoch (asks (suc k) f s epoch client act call known names)
+    (ask_to (λ u more its all. asks_to k u s epoch client act more its all) (stepped t s (Applying epoch call Pass (apply_answer v epoch call Pass)))
+    (learned client act call.deed (reply_of call (apply_answer v epoch call Pass)) known)
     (reply_of call (apply_answer v epoch call Pass)) (names ++ names_of (reply_of call (apply_answer v epoch call Pass)).value)
-    (goes_on_with call.deed (reply_of call (apply_answer v epoch call Pass)).value))) (sym (stands.slots s))
-    (ask_same n s epoch (λ g more its. asks k g s epoch more its) (λ u more its. asks_to k u s epoch more its) f' t' reply listed (goes_on_with call.deed reply.value)
-    (λ more. asks_same k n f' t' s epoch more listed after below still) after still)
+    (goes_on_with call (reply_of call (apply_answer v epoch call Pass)).value))) (sym (stands.slots s))
+    (ask_same n s epoch (λ g more its all. asks k g s epoch client act more its all) (λ u more its all. asks_to k u s epoch client act more its all)
+    f' t' knows reply listed (goes_on_with call reply.value)
+    (λ more. asks_same k n f' t' s epoch client act more knows listed after below still) after still)
 
 -- what the client knows then, and is told
 told_same : (n : ℕ) (f : FileNow) (t : FileTables) (client : ℕ) (act : Action) (known : Known) (names : List (List ℕ)) (reply : Option Reply) → Stands n f t
@@ -169,26 +178,31 @@ unfolding after_asking asked_to
 told_same n f t client act known names None stands = record { file = stands; known = refl; told = refl }
 told_same n f t client act known names (Some reply) stands = record { file = stands; known = refl; told = refl }
 
-asked_same : (n s epoch client : ℕ) (act : Action) (known : Known) (asked : Asked) (to : AskedTo) → s < n → IsAsked n s epoch asked to
-    → IsTried n (after_asking (did asked.file s (Leaving epoch)) client act known asked.names asked.reply)
-    (asked_to (stepped to.file s (Leaving epoch)) client act known to.names to.reply)
-asked_same n s epoch client act known asked to below same =
+asked_same : (n s epoch client : ℕ) (act : Action) (asked : Asked) (to : AskedTo) → s < n → IsAsked n s epoch asked to
+    → IsTried n (after_asking (did asked.file s (Leaving epoch)) client act asked.known asked.names asked.reply)
+    (asked_to (stepped to.file s (Leaving epoch)) client act to.known to.names to.reply)
+asked_same n s epoch client act asked to below same =
     let left : Stands n (did asked.file s (Leaving epoch)) (stepped to.file s (Leaving epoch)) =
     plain_stands n asked.file to.file s (Leaving epoch) same.file (record { answered = tt; delivered = same.out })
     (kept_inside n asked.file to.file s (Leaving epoch) same.file below) tt refl in
-    subst (λ names. IsTried n (after_asking (did asked.file s (Leaving epoch)) client act known asked.names asked.reply)
-    (asked_to (stepped to.file s (Leaving epoch)) client act known names to.reply)) (sym same.names)
-    (subst (λ reply. IsTried n (after_asking (did asked.file s (Leaving epoch)) client act known asked.names asked.reply)
-    (asked_to (stepped to.file s (Leaving epoch)) client act known asked.names reply)) (sym same.reply)
-    (told_same n (did asked.file s (Leaving epoch)) (stepped to.file s (Leaving epoch)) client act known asked.names asked.reply left))
+    subst (λ known. IsTried n (after_asking (did asked.file s (Leaving epoch)) client act asked.known asked.names asked.reply)
+    (asked_to (stepped to.file s (Leaving epoch)) client act known to.names to.reply)) (sym same.known)
+    (subst (λ names. IsTried n (after_asking (did asked.file s (Leaving epoch)) client act asked.known asked.names asked.reply)
+    (asked_to (stepped to.file s (Leaving epoch)) client act asked.known names to.reply)) (sym same.names)
+    (subst (λ reply. IsTried n (after_asking (did asked.file s (Leaving epoch)) client act asked.known asked.names asked.reply)
+    (asked_to (stepped to.file s (Leaving epoch)) client act asked.known asked.names reply)) (sym same.reply)
+    (told_same n (did asked.file s (Leaving epoch)) (stepped to.file s (Leaving epoch)) client act asked.known asked.names asked.reply left)))
 
 -- so many requests
 calls_by : (k n : ℕ) (f : FileNow) (t : FileTables) (s epoch client : ℕ) (act : Action) (call : Call) (known : Known) → Stands n f t → s < n
     → is_out epoch (passes_now f.moments s) ≡ true
-    → IsTried n (after_asking (did (asks k f s epoch call []).file s (Leaving epoch)) client act known (asks k f s epoch call []).names (asks k f s epoch call []).reply)
-    (asked_to (stepped (asks_to k t s epoch call []).file s (Leaving epoch)) client act known (asks_to k t s epoch call []).names (asks_to k t s epoch call []).reply)
+    → IsTried n (after_asking (did (asks k f s epoch client act call known []).file s (Leaving epoch)) client act (asks k f s epoch client act call known []).known
+    (asks k f s epoch client act call known []).names (asks k f s epoch client act call known []).reply)
+    (asked_to (stepped (asks_to k t s epoch client act call known []).file s (Leaving epoch)) client act (asks_to k t s epoch client act call known []).known
+    (asks_to k t s epoch client act call known []).names (asks_to k t s epoch client act call known []).reply)
 calls_by k n f t s epoch client act call known stands below out =
-    asked_same n s epoch client act known (asks k f s epoch call []) (asks_to k t s epoch call []) below (asks_same k n f t s epoch call [] stands below out)
+    asked_same n s epoch client act (asks k f s epoch client act call known []) (asks_to k t s epoch client act call known []) below
+    (asks_same k n f t s epoch client act call known [] stands below out)
 
 calls_same : (n : ℕ) (f : FileNow) (t : FileTables) (s epoch client : ℕ) (act : Action) (call : Call) (known : Known) → Stands n f t → s < n
     → is_out epoch (passes_now f.moments s) ≡ true → IsTried n (calls_at f s epoch client act call known) (calls_to t s epoch client act call known)

@@ -24,9 +24,10 @@ use Rattle.nm_slot.specs.Answers.{enter_answer, apply_answer, begin_answer, free
 use Rattle.nm_slot.specs.History.{Home}
 use Rattle.nm_slot.specs.Moves.{Sent, move_now, latest_offer, latest_handed}
 use Rattle.nm_slot.specs.SlotNow.SlotStep.{Applying, Leaving, Beginning, Freezing, Accepting}
-use Rattle.nm_short.specs.Known.{Known, call_of, hand_of, place_of, sent_to}
+use Rattle.nm_short.specs.Known.{Known, learned, call_of, hand_of, place_of, sent_to}
 use Rattle.nm_short.specs.RunFacts.{home_of, run_after}
-use Rattle.nm_short.specs.ShortRun.{FileNow, Went, Asked, Knocked, RunNow, Order, at_server, did, reply_of, goes_on_with, names_of, asks, after_asking, source, after_begin, begins, after_freeze, freezes, abandons, after_accept, delivers_offer, commits, delivers_handed, settles, and_then, shifts, knocks, at_door, calls_at, tries, requests_limit, ran_call, acts, starts, goes_on, ran_do, ran_finish, ordered, ran_order, run_line, files_from}
+use Rattle.nm_short.specs.Requests.{reply_of, goes_on_with, names_of, requests_limit}
+use Rattle.nm_short.specs.ShortRun.{FileNow, Went, Asked, Knocked, RunNow, Order, at_server, did, asks, after_asking, source, after_begin, begins, after_freeze, freezes, abandons, after_accept, delivers_offer, commits, delivers_handed, settles, and_then, shifts, knocks, at_door, calls_at, tries, ran_call, acts, starts, goes_on, ran_do, ran_finish, ordered, ran_order, run_line, files_from}
 use Rattle.nm_short.specs.ShortRun.Order.{ToMove, ToFreeze, ToAbandon, ToCommit, ToSettle, ToShift, ToShow}
 use Rattle.nm_short.proofs.ClientLaws.{ask_of, knock_of}
 
@@ -120,19 +121,22 @@ unfolding knocks
 knocks_home zero f s = refl
 knocks_home (suc k) f s = knock_home (knocks k) f s (enter_answer (at_server f s)) (λ g r. knocks_home k g r)
 
-ask_home : (further : FileNow → Call → List (List ℕ) → Asked) (f : FileNow) (reply : Reply) (listed : List (List ℕ)) (next : Option Call)
-    → ((more : Call) → (further f more listed).file.home ≡ f.home) → (ask_of further f reply listed next).file.home ≡ f.home
-ask_home further f reply listed None same = refl
-ask_home further f reply listed (Some more) same = same more
+ask_home : (further : FileNow → Call → Known → List (List ℕ) → Asked) (f : FileNow) (knows : Known) (reply : Reply) (listed : List (List ℕ)) (next : Option Call)
+    → ((more : Call) → (further f more knows listed).file.home ≡ f.home) → (ask_of further f knows reply listed next).file.home ≡ f.home
+ask_home further f knows reply listed None same = refl
+ask_home further f knows reply listed (Some more) same = same more
 
-asks_home : (k : ℕ) (f : FileNow) (s epoch : ℕ) (call : Call) (names : List (List ℕ)) → (asks k f s epoch call names).file.home ≡ f.home
+asks_home : (k : ℕ) (f : FileNow) (s epoch client : ℕ) (act : Action) (call : Call) (known : Known) (names : List (List ℕ))
+    → (asks k f s epoch client act call known names).file.home ≡ f.home
 unfolding asks
-asks_home zero f s epoch call names = refl
-asks_home (suc k) f s epoch call names =
+asks_home zero f s epoch client act call known names = refl
+asks_home (suc k) f s epoch client act call known names =
     let a : Answer = apply_answer (at_server f s) epoch call Pass in
     let reply : Reply = reply_of call a in
-    ask_home (λ g more its. asks k g s epoch more its) (did f s (Applying epoch call Pass a)) reply (names ++ names_of reply.value) (goes_on_with call.deed reply.value)
-    (λ more. asks_home k (did f s (Applying epoch call Pass a)) s epoch more (names ++ names_of reply.value))
+    let knows : Known = learned client act call.deed reply known in
+    ask_home (λ g more its all. asks k g s epoch client act more its all) (did f s (Applying epoch call Pass a)) knows reply (names ++ names_of reply.value)
+    (goes_on_with call reply.value)
+    (λ more. asks_home k (did f s (Applying epoch call Pass a)) s epoch client act more knows (names ++ names_of reply.value))
 
 asked_home : (f : FileNow) (client : ℕ) (act : Action) (known : Known) (names : List (List ℕ)) (reply : Option Reply)
     → (after_asking f client act known names reply).file.home ≡ f.home
@@ -145,11 +149,12 @@ unfolding calls_at
 calls_home f s epoch client act call known = by_asks requests_limit
   where
     by_asks : (k : ℕ)
-        → (after_asking (did (asks k f s epoch call []).file s (Leaving epoch)) client act known (asks k f s epoch call []).names (asks k f s epoch call []).reply).file.home
-        ≡ f.home
+        → (after_asking (did (asks k f s epoch client act call known []).file s (Leaving epoch)) client act (asks k f s epoch client act call known []).known
+        (asks k f s epoch client act call known []).names (asks k f s epoch client act call known []).reply).file.home ≡ f.home
     by_asks k =
-        asked_home (did (asks k f s epoch call []).file s (Leaving epoch)) client act known (asks k f s epoch call []).names (asks k f s epoch call []).reply
-        ∙ asks_home k f s epoch call []
+        asked_home (did (asks k f s epoch client act call known []).file s (Leaving epoch)) client act (asks k f s epoch client act call known []).known
+        (asks k f s epoch client act call known []).names (asks k f s epoch client act call known []).reply
+        ∙ asks_home k f s epoch client act call known []
 
 door_home : (f : FileNow) (s : ℕ) (door : Option Enter) (client : ℕ) (act : Action) (call : Call) (known : Known) → (at_door f s door client act call known).file.home ≡ f.home
 unfolding at_door

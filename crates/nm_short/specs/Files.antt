@@ -18,6 +18,7 @@ use Rattle.nm_short.specs.declared.orders.Came.{Came}
 use Rattle.nm_short.specs.declared.orders.Order.{Order as CodeOrder}
 use Rattle.nm_short.specs.declared.orders.Order.TheVariants as code
 use Rattle.nm_short.specs.declared.orders.Ordered.{Ordered as CodeOrdered}
+use Rattle.nm_short.specs.Known.{Known}
 use Rattle.nm_short.specs.ShortRun.{Order}
 use Rattle.nm_short.specs.ShortRun.Order.{ToMove, ToFreeze, ToAbandon, ToCommit, ToSettle, ToShift, ToShow}
 use Rattle.nm_short.specs.Tables.{FileTables, SentTo, HandedTo, WentTo, AskedTo, KnockedTo, slot_in, stepped, commits_in, had_by, goes_well_to, ends_in, nothing_sent}
@@ -91,5 +92,5 @@ abbrev pub knocked_to : CodeKnocked → FileTables → KnockedTo
 knocked_to knocked f = record { file = f; server = knocked.server; door = knocked.door }
 
 -- what came of a request, with what it left
-abbrev pub asked_in : CodeAsked → FileTables → AskedTo
-asked_in asked f = record { file = f; reply = asked.reply; names = asked.names }
+abbrev pub asked_in : CodeAsked → FileTables → Known → AskedTo
+asked_in asked f known = record { file = f; known = known; reply = asked.reply; names = asked.names }

@@ -1,5 +1,5 @@
 -- What the clients of a script know, and what they send.
-use Rattle.std.specs.Prelude.{ℕ, ◌==◌, ◌&&◌, not, Bool, List, [], ◌∷◌, ◌++◌, Option, Some, None, find, filter, option_map, unwrap_or, codes, if◌then◌else◌}
+use Rattle.std.specs.Prelude.{ℕ, ◌==◌, ◌&&◌, not, Bool, List, [], ◌∷◌, ◌++◌, map, Option, Some, None, find, filter, option_map, unwrap_or, codes, if◌then◌else◌}
 use Rattle.std.specs.Str.{bytes_eq}
 use Rattle.nm_rules.specs.Parties.{Party}
 use Rattle.nm_rules.specs.Seqids.{advances}
@@ -19,11 +19,14 @@ use Rattle.nm_rules.specs.declared.args.OpenType.{OpenType}
 use Rattle.nm_rules.specs.declared.args.OpenType.TheVariants.{NoCreate, Unchecked}
 use Rattle.nm_rules.specs.declared.args.Stable.TheVariants.{FileSync}
 use Rattle.nm_rules.specs.declared.calls.Call.{Call}
+use Rattle.nm_rules.specs.declared.calls.Deed.{Deed}
 use Rattle.nm_rules.specs.declared.calls.Deed.TheVariants as deed
+use Rattle.nm_rules.specs.declared.calls.StateId.{StateId}
 use Rattle.nm_rules.specs.declared.calls.StateRef.TheVariants.{Named}
 use Rattle.nm_rules.specs.declared.calls.Reply.{Reply}
 use Rattle.nm_rules.specs.declared.calls.ReplyValue.{ReplyValue}
-use Rattle.nm_rules.specs.declared.calls.ReplyValue.TheVariants.{Open as OpenReply, Close as CloseReply}
+use Rattle.nm_rules.specs.declared.calls.ReplyValue.TheVariants.{Open as OpenReply, Close as CloseReply, OpenConfirm as ConfirmReply, OpenDowngrade as DowngradeReply}
+use Rattle.nm_rules.specs.declared.results.Opened.{Opened}
 use Rattle.nm_rules.specs.declared.status.OpStatus.{OpStatus}
 use Rattle.nm_script.specs.declared.script.ClientRow.{ClientRow}
 use Rattle.nm_short.specs.declared.clients.Believed.{Believed}
@@ -82,20 +85,45 @@ unfoldable pub holds_closed : ℕ → CloseAction → ReplyValue → List HeldOp
 holds_closed client a (CloseReply (Some id)) rows = others_held client a.fs a.owner a.file rows
 holds_closed client a _ rows = rows
 
+-- An OK of OPEN_CONFIRM and of OPEN_DOWNGRADE tells the stateid of an open anew.
+unfoldable pub told_stateid : ReplyValue → Option StateId
+told_stateid (ConfirmReply stateid) = stateid
+told_stateid (DowngradeReply stateid) = stateid
+told_stateid _ = None
+
+-- what the owner holds on the file has that stateid then
+abbrev pub renewed_held : ℕ → OpenAction → StateId → HeldOpen → HeldOpen
+renewed_held client a id row = if is_held_of client a.fs a.owner a.file row then record row { stateid = id } else row
+
+abbrev pub holds_told : ℕ → OpenAction → Option StateId → List HeldOpen → List HeldOpen
+holds_told client a None rows = rows
+holds_told client a (Some id) rows = map (renewed_held client a id) rows
+
 abbrev pub learned_open : ℕ → OpenAction → Reply → Known → Known
 learned_open client a reply known =
     record known { seqids = moved_on client a.fs a.owner reply.status known.seqids; held = holds_opened client a reply.value known.held }
+
+abbrev pub learned_anew : ℕ → OpenAction → Reply → Known → Known
+learned_anew client a reply known =
+    record known { seqids = moved_on client a.fs a.owner reply.status known.seqids; held = holds_told client a (told_stateid reply.value) known.held }
 
 abbrev pub learned_close : ℕ → CloseAction → Reply → Known → Known
 learned_close client a reply known =
     record known { seqids = moved_on client a.fs a.owner reply.status known.seqids; held = holds_closed client a reply.value known.held }
 
--- What a client knows after the reply to an action. Of names and of bytes it keeps nothing.
-unfoldable pub learned : ℕ → Action → Reply → Known → Known
-learned client (action.Open a) reply known = learned_open client a reply known
-learned client (action.Create a) reply known = learned_open client a reply known
-learned client (action.Close a) reply known = learned_close client a reply known
-learned client _ reply known = known
+-- after a reply to an open or a create, which make an OPEN and then maybe an OPEN_CONFIRM
+unfoldable pub learned_opening : ℕ → OpenAction → Deed → Reply → Known → Known
+learned_opening client a (deed.Open _) reply known = learned_open client a reply known
+learned_opening client a (deed.OpenConfirm _) reply known = learned_anew client a reply known
+learned_opening client a _ reply known = known
+
+-- What a client knows after the reply to an operation that it made for an action. Of names and of bytes it keeps nothing.
+unfoldable pub learned : ℕ → Action → Deed → Reply → Known → Known
+learned client (action.Open a) d reply known = learned_opening client a d reply known
+learned client (action.Create a) d reply known = learned_opening client a d reply known
+learned client (action.Close a) d reply known = learned_close client a reply known
+learned client (action.Downgrade a) d reply known = learned_anew client a reply known
+learned client _ d reply known = known
 
 -- ---- where clients believe a file system to be
 
@@ -163,6 +191,22 @@ close_call client row held seqid = record {
   deed = deed.Close (record { seqid = seqid; stateid = Named held.stateid });
 }
 
+-- OPEN_CONFIRM of what an OPEN told
+unfoldable pub confirm_call : Option Party → Opened → ℕ → Call
+confirm_call caller opened seqid = record {
+  caller = caller;
+  file = opened.file;
+  deed = deed.OpenConfirm (record { stateid = Named opened.ok.stateid; seqid = seqid });
+}
+
+-- OPEN_DOWNGRADE of what the client holds
+unfoldable pub downgrade_call : ℕ → ClientRow → OpenAction → HeldOpen → ℕ → Call
+downgrade_call client row a held seqid = record {
+  caller = Some (party_of client row);
+  file = held.handle;
+  deed = deed.OpenDowngrade (record { stateid = Named held.stateid; seqid = seqid; access = a.access; deny = a.deny });
+}
+
 -- READ, WRITE and SETATTR of size, with the stateid of what the client holds
 unfoldable pub read_call : ℕ → ClientRow → ReadAction → HeldOpen → Call
 read_call client row a held = record {
@@ -204,13 +248,16 @@ list_call cookie = record {
   deed = deed.ReadDir (record { cookie = cookie; verifier = 0; dircount = 0; maxcount = 65536; words = [] });
 }
 
--- The call of an action. CLOSE and what reads or changes a file's bytes need a stateid; without one nothing is sent.
+-- The call of an action. CLOSE, OPEN_DOWNGRADE and what reads or changes a file's bytes need a stateid; without one nothing is
+-- sent.
 unfoldable pub call_of : ℕ → ClientRow → Known → Action → Option Call
 call_of client row known (action.Open a) = Some (open_call client row a NoCreate (seqid_of client a.fs a.owner known.seqids))
 call_of client row known (action.Create a) =
     Some (open_call client row a (Unchecked no_attributes) (seqid_of client a.fs a.owner known.seqids))
 call_of client row known (action.Close a) =
     option_map (λ held. close_call client row held (seqid_of client a.fs a.owner known.seqids)) (held_of client a.fs a.owner a.file known.held)
+call_of client row known (action.Downgrade a) =
+    option_map (λ held. downgrade_call client row a held (seqid_of client a.fs a.owner known.seqids)) (held_of client a.fs a.owner a.file known.held)
 call_of client row known (action.Read a) = option_map (read_call client row a) (held_of client a.fs a.owner a.file known.held)
 call_of client row known (action.Write a) = option_map (write_call client row a) (held_of client a.fs a.owner a.file known.held)
 call_of client row known (action.Size a) = option_map (size_call client row a) (held_of client a.fs a.owner a.file known.held)

@@ -1,5 +1,6 @@
 pub mod Files
 pub mod Known
+pub mod Requests
 pub mod RunFacts
 pub mod Runs
 pub mod ShortRun

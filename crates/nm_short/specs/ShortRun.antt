@@ -1,24 +1,14 @@
 -- The run of a script without messages: each call of a client reaches a server at once, and its reply the client; what
 -- the servers of a move send one another is delivered by the lines `commit` and `settle`. A file system is nothing but
 -- the list of its servers' steps.
-use Rattle.std.specs.Prelude.{ℕ, zero, suc, ◌+◌, Bool, true, false, List, [], ◌∷◌, ◌++◌, map, Option, Some, None, option_map, unwrap_or, slice_get, slice_set, if◌then◌else◌}
+use Rattle.std.specs.Prelude.{ℕ, zero, suc, ◌+◌, Bool, true, false, List, [], ◌∷◌, ◌++◌, Option, Some, None, option_map, unwrap_or, slice_get, slice_set, if◌then◌else◌}
 use Rattle.nm_rules.specs.Actions.{verb_of, fs_of}
-use Rattle.nm_rules.specs.Answer.{reply_with, refused_value}
 use Rattle.nm_rules.specs.Held.{held_table}
-use Rattle.nm_rules.specs.Past.{is_done}
 use Rattle.nm_rules.specs.declared.action.Action.{Action}
-use Rattle.nm_rules.specs.declared.action.Action.TheVariants as action
-use Rattle.nm_rules.specs.declared.args.ReadDirArgs.{ReadDirArgs}
 use Rattle.nm_rules.specs.declared.calls.Call.{Call}
-use Rattle.nm_rules.specs.declared.calls.Deed.{Deed}
-use Rattle.nm_rules.specs.declared.calls.Deed.TheVariants as deed
 use Rattle.nm_rules.specs.declared.calls.Verdict.TheVariants.{Pass}
 use Rattle.nm_rules.specs.declared.calls.Reply.{Reply}
-use Rattle.nm_rules.specs.declared.calls.ReplyValue.{ReplyValue}
-use Rattle.nm_rules.specs.declared.calls.ReplyValue.TheVariants as value
 use Rattle.nm_rules.specs.declared.cause.Cause.TheVariants as cause
-use Rattle.nm_rules.specs.declared.results.DirEntry.{DirEntry}
-use Rattle.nm_rules.specs.declared.results.ReadDirOk.{ReadDirOk}
 use Rattle.nm_rules.specs.declared.status.OpStatus.{OpStatus}
 use Rattle.nm_rules.specs.declared.status.OpStatus.TheVariants as status
 use Rattle.nm_script.specs.declared.script.ClientRow.{ClientRow}
@@ -39,8 +29,6 @@ use Rattle.nm_slot.specs.declared.answers.Abandon.{Abandon}
 use Rattle.nm_slot.specs.declared.answers.Abandon.TheVariants as abandon
 use Rattle.nm_slot.specs.declared.answers.Accept.{Accept}
 use Rattle.nm_slot.specs.declared.answers.Accept.TheVariants as accept
-use Rattle.nm_slot.specs.declared.answers.Answer.{Answer}
-use Rattle.nm_slot.specs.declared.answers.Answer.TheVariants as answer
 use Rattle.nm_slot.specs.declared.answers.Begin.{Begin}
 use Rattle.nm_slot.specs.declared.answers.Begin.TheVariants as begin
 use Rattle.nm_slot.specs.declared.answers.Enter.{Enter}
@@ -54,7 +42,8 @@ use Rattle.nm_slot.specs.Phases.{Phase, Moment, phase_now, source_of}
 use Rattle.nm_slot.specs.Phases.Phase.{At, Closing, Frozen, Passing}
 use Rattle.nm_slot.specs.SlotNow.{SlotView, SlotStep}
 use Rattle.nm_slot.specs.SlotNow.SlotStep.{Entering, Leaving, Applying, Beginning, Freezing, Imaging, Committing, Abandoning, Accepting, Installing}
-use Rattle.nm_short.specs.Known.{Known, knows_nothing, learned, call_of, list_call, place_of, sent_to, hand_of, put_down, taken_up}
+use Rattle.nm_short.specs.Known.{Known, knows_nothing, learned, call_of, place_of, sent_to, hand_of, put_down, taken_up}
+use Rattle.nm_short.specs.Requests.{requests_limit, reply_of, goes_on_with, names_of, told_by, unknown_status}
 
 -- ---- a file system
 
@@ -221,62 +210,26 @@ knocks (suc n) f s = elim (enter_answer (at_server f s)) [
   | enter.Unknown ↦ record { file = did f s (Entering enter.Unknown); server = s; door = Some enter.Unknown }
 ]
 
--- the requests of one line
-abbrev pub requests_limit : ℕ
-requests_limit = 1000
-
--- a call's reply; one that came to no entry has no value
-abbrev pub reply_of : Call → Answer → Reply
-reply_of call (answer.Done place reply) = reply
-reply_of call (answer.Ended era) = reply_with status.Expired (refused_value call.deed)
-reply_of call (answer.Strayed pass slot) = reply_with status.ServerFault (refused_value call.deed)
-reply_of call (answer.Last count) = reply_with status.Resource (refused_value call.deed)
-
--- A list that has more goes on behind the last cookie that it was told.
-abbrev pub last_cookie : ℕ → List DirEntry → ℕ
-last_cookie cookie [] = cookie
-last_cookie cookie (entry ∷ entries) = last_cookie entry.cookie entries
-
-abbrev pub more_of : ReadDirArgs → ReadDirOk → Option Call
-more_of args ok = if ok.eof then None else Some (list_call (last_cookie args.cookie ok.entries))
-
-unfoldable pub goes_on_with : Deed → ReplyValue → Option Call
-goes_on_with (deed.ReadDir args) (value.ReadDir (Some ok)) = more_of args ok
-goes_on_with _ _ = None
-
--- the names that a reply lists
-unfoldable pub names_of : ReplyValue → List (List ℕ)
-names_of (value.ReadDir (Some ok)) = map (λ entry. entry.name) ok.entries
-names_of _ = []
-
--- What came of a request and of those that go on with it, so many at most: the last reply, none where there were more to
--- make, and the names that all of them listed.
+-- What came of an action's first request and of those that go on with it, so many at most: what the clients know, the last
+-- reply, none where there were more to make, and the names that all of them listed. The client learns from each reply.
 pub record Asked : Type 0 where
   pub file : FileNow
+  pub known : Known
   pub reply : Option Reply
   pub names : List (List ℕ)
 
-unfoldable pub asks : ℕ → FileNow → ℕ → ℕ → Call → List (List ℕ) → Asked
-asks zero f s epoch call names = record { file = f; reply = None; names = names }
-asks (suc n) f s epoch call names =
+unfoldable pub asks : ℕ → FileNow → ℕ → ℕ → ℕ → Action → Call → Known → List (List ℕ) → Asked
+asks zero f s epoch client act call known names = record { file = f; known = known; reply = None; names = names }
+asks (suc n) f s epoch client act call known names =
     let a = apply_answer (at_server f s) epoch call Pass in
     let reply = reply_of call a in
     let now = did f s (Applying epoch call Pass a) in
+    let knows = learned client act call.deed reply known in
     let listed = names ++ names_of reply.value in
-    elim (goes_on_with call.deed reply.value) [
-      | None ↦ record { file = now; reply = Some reply; names = listed }
-      | Some next ↦ asks n now s epoch next listed
+    elim (goes_on_with call reply.value) [
+      | None ↦ record { file = now; known = knows; reply = Some reply; names = listed }
+      | Some next ↦ asks n now s epoch client act next knows listed
     ]
-
--- what a client is told of an OK
-unfoldable pub told_ok : ReplyValue → List (List ℕ) → Told
-told_ok (value.Write (Some ok)) names = told.Wrote ok.count
-told_ok (value.Read (Some ok)) names = told.Read ok
-told_ok (value.ReadDir (Some _)) names = told.Listed names
-told_ok _ names = told.Answered status.Nfs4Ok
-
-unfoldable pub told_by : Reply → List (List ℕ) → Told
-told_by reply names = if is_done reply.status then told_ok reply.value names else told.Answered reply.status
 
 abbrev pub stays_in_hand : FileNow → ℕ → Action → Known → Told → Tried
 stays_in_hand f client act known what =
@@ -286,28 +239,15 @@ unfoldable pub after_asking : FileNow → ℕ → Action → Known → List (Lis
 after_asking f client act known names None = stays_in_hand f client act known told.Stopped
 after_asking f client act known names (Some reply) = record {
   file = f;
-  known = learned client act reply (record known { in_hand = put_down client known.in_hand });
+  known = record known { in_hand = put_down client known.in_hand };
   told = told_by reply names;
 }
 
 -- with the pass the calls are made, and the pass comes back
 unfoldable pub calls_at : FileNow → ℕ → ℕ → ℕ → Action → Call → Known → Tried
 calls_at f s epoch client act call known =
-    let asked = asks requests_limit f s epoch call [] in
-    after_asking (did asked.file s (Leaving epoch)) client act known asked.names asked.reply
-
--- A file system that the server doesn't know: where a client looks it up by name it isn't there, and what it has a handle of
--- is stale.
-unfoldable pub unknown_status : Action → OpStatus
-unknown_status (action.Open _) = status.NoEnt
-unknown_status (action.Create _) = status.NoEnt
-unknown_status (action.Close _) = status.Stale
-unknown_status (action.Read _) = status.Stale
-unknown_status (action.Write _) = status.Stale
-unknown_status (action.Size _) = status.Stale
-unknown_status (action.Remove _) = status.NoEnt
-unknown_status (action.MkDir _) = status.NoEnt
-unknown_status (action.List _) = status.NoEnt
+    let asked = asks requests_limit f s epoch client act call known [] in
+    after_asking (did asked.file s (Leaving epoch)) client act asked.known asked.names asked.reply
 
 abbrev pub is_refused : FileNow → ℕ → Known → OpStatus → Tried
 is_refused f client known why = record { file = f; known = record known { in_hand = put_down client known.in_hand }; told = told.Refused why }

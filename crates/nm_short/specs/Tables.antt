@@ -45,7 +45,8 @@ use Rattle.nm_slot.specs.SlotNow.HandedOver.{Committed, Again, Dead}
 use Rattle.nm_slot.specs.SlotNow.SlotStep.{Entering, Leaving, Applying, Beginning, Freezing, Committing, Abandoning, Accepting, Installing}
 use Rattle.nm_slot.specs.SlotNow.Stage.{Away, Here}
 use Rattle.nm_short.specs.Known.{Known, knows_nothing, learned, call_of, place_of, sent_to, hand_of, put_down, taken_up}
-use Rattle.nm_short.specs.ShortRun.{Order, fs_name, phase_shown, phase_row, move_row, abandon_told, requests_limit, reply_of, goes_on_with, names_of, told_by, unknown_status, outcome}
+use Rattle.nm_short.specs.Requests.{requests_limit, reply_of, goes_on_with, names_of, told_by, unknown_status}
+use Rattle.nm_short.specs.ShortRun.{Order, fs_name, phase_shown, phase_row, move_row, abandon_told, outcome}
 use Rattle.nm_short.specs.ShortRun.Order.{ToMove, ToFreeze, ToAbandon, ToCommit, ToSettle, ToShift, ToShow}
 
 -- ---- a file system
@@ -218,19 +219,21 @@ knocks_to (suc n) f s = elim (enter_answer (slot_in f s)) [
 
 pub record AskedTo : Type 0 where
   pub file : FileTables
+  pub known : Known
   pub reply : Option Reply
   pub names : List (List ℕ)
 
-unfoldable pub asks_to : ℕ → FileTables → ℕ → ℕ → Call → List (List ℕ) → AskedTo
-asks_to zero f s epoch call names = record { file = f; reply = None; names = names }
-asks_to (suc n) f s epoch call names =
+unfoldable pub asks_to : ℕ → FileTables → ℕ → ℕ → ℕ → Action → Call → Known → List (List ℕ) → AskedTo
+asks_to zero f s epoch client act call known names = record { file = f; known = known; reply = None; names = names }
+asks_to (suc n) f s epoch client act call known names =
     let a = apply_answer (slot_in f s) epoch call Pass in
     let reply = reply_of call a in
     let now = stepped f s (Applying epoch call Pass a) in
+    let knows = learned client act call.deed reply known in
     let listed = names ++ names_of reply.value in
-    elim (goes_on_with call.deed reply.value) [
-      | None ↦ record { file = now; reply = Some reply; names = listed }
-      | Some next ↦ asks_to n now s epoch next listed
+    elim (goes_on_with call reply.value) [
+      | None ↦ record { file = now; known = knows; reply = Some reply; names = listed }
+      | Some next ↦ asks_to n now s epoch client act next knows listed
     ]
 
 abbrev pub waits_to : FileTables → ℕ → Action → Known → Told → TriedTo
@@ -241,14 +244,14 @@ unfoldable pub asked_to : FileTables → ℕ → Action → Known → List (List
 asked_to f client act known names None = waits_to f client act known told.Stopped
 asked_to f client act known names (Some reply) = record {
   file = f;
-  known = learned client act reply (record known { in_hand = put_down client known.in_hand });
+  known = record known { in_hand = put_down client known.in_hand };
   told = told_by reply names;
 }
 
 unfoldable pub calls_to : FileTables → ℕ → ℕ → ℕ → Action → Call → Known → TriedTo
 calls_to f s epoch client act call known =
-    let asked = asks_to requests_limit f s epoch call [] in
-    asked_to (stepped asked.file s (Leaving epoch)) client act known asked.names asked.reply
+    let asked = asks_to requests_limit f s epoch client act call known [] in
+    asked_to (stepped asked.file s (Leaving epoch)) client act asked.known asked.names asked.reply
 
 abbrev pub refused_to : FileTables → ℕ → Known → OpStatus → TriedTo
 refused_to f client known why = record { file = f; known = record known { in_hand = put_down client known.in_hand }; told = told.Refused why }

@@ -2,21 +2,22 @@
 ghost use Rattle.std.specs.Prelude.{◌≡◌, ◌++◌, [], Some, None, IfOk, OnOk, map};
 ghost use Rattle.nm_rules.specs.Answer.{refused_value};
 ghost use Rattle.nm_rules.specs.Past.{is_done};
-ghost use Rattle.nm_rules.specs.declared.calls.Deed.TheVariants.{ReadDir as ReadDirDeed};
+ghost use Rattle.nm_rules.specs.declared.calls.Deed.TheVariants.{Open as OpenDeed, ReadDir as ReadDirDeed};
 ghost use Rattle.nm_rules.specs.declared.calls.Verdict.TheVariants.{Pass};
 ghost use Rattle.nm_slot.specs.Answers.{apply_answer};
 ghost use Rattle.nm_slot.specs.SlotNow.SlotStep.{Applying};
 ghost use Rattle.nm_short.specs.Files.{asked_in, knocked_to, sent_on};
 ghost use Rattle.nm_short.specs.Known.{sent_to, put_down, taken_up};
 ghost use Rattle.nm_short.specs.Runs.{tried_to};
-ghost use Rattle.nm_short.specs.ShortRun.{requests_limit, reply_of, last_cookie, more_of, goes_on_with, names_of, told_ok, told_by, unknown_status};
+ghost use Rattle.nm_short.specs.Requests.{requests_limit, reply_of, last_cookie, more_of, confirms, goes_on_by, goes_on_with, names_of, told_ok, told_by, unknown_status};
 ghost use Rattle.nm_short.specs.Tables.{knocks_to, asks_to, asked_to, calls_to, door_to, tries_to, slot_in, stepped};
 
-use crate::clients::{Clients, make_list};
+use crate::clients::{Clients, seqid_after};
 use crate::files::FileSlots;
+use crate::sends::{make_confirm, make_list};
 use nm_rules::{
-    Action, Call, Deed, DirEntry, Items, Memory, OpStatus, ReadDirArgs, ReadDirOk, Reply,
-    ReplyValue, ServerNum,
+    Action, Call, Deed, DirEntry, Instance, Items, Memory, OpStatus, OpenArgs, Opened, ReadDirArgs,
+    ReadDirOk, Reply, ReplyValue, ServerNum,
 };
 use nm_script::{Names, Told};
 use nm_slot::{Answer, Enter, FsPass};
@@ -64,6 +65,8 @@ fn refused_value(alloc: Global, deed: &Deed) -> ReplyValue
         Deed::Lookup(_) => ReplyValue::Lookup(None),
         Deed::LookupP => ReplyValue::LookupP(None),
         Deed::Open(_) => ReplyValue::Open(None),
+        Deed::OpenConfirm(_) => ReplyValue::OpenConfirm(None),
+        Deed::OpenDowngrade(_) => ReplyValue::OpenDowngrade(None),
         Deed::Read(_) => ReplyValue::Read(None),
         Deed::ReadDir(_) => ReplyValue::ReadDir(None),
         Deed::Remove(_) => ReplyValue::Remove(None),
@@ -90,14 +93,14 @@ fn reply_of(alloc: Global, call: &Call, answer: Answer) -> Reply
 }
 
 // What is told of a file system that the server doesn't know.
-#[tactic(auto, unfolding(crate::specs::ShortRun::unknown_status))]
+#[tactic(auto, unfolding(crate::specs::Requests::unknown_status))]
 fn unknown_status(action: &Action) -> OpStatus
     ensures { result ≡ unknown_status action.now }
 {
     match action {
         Action::Open(_) | Action::Create(_) => OpStatus::NoEnt,
         Action::Remove(_) | Action::MkDir(_) | Action::List(_) => OpStatus::NoEnt,
-        Action::Close(_) => OpStatus::Stale,
+        Action::Close(_) | Action::Downgrade(_) => OpStatus::Stale,
         Action::Read(_) | Action::Write(_) | Action::Size(_) => OpStatus::Stale,
     }
 }
@@ -124,10 +127,37 @@ fn more_of(alloc: Global, args: &ReadDirArgs, ok: &ReadDirOk) -> Option<Call>
     Some(make_list(alloc, cookie))
 }
 
+// The OPEN_CONFIRM that goes on with an OPEN, where its owner has to be confirmed.
+fn confirms(caller: Option<Instance>, args: &OpenArgs, opened: &Opened) -> Option<Call>
+    ensures { result ≡ confirms caller args.now opened.now }
+{
+    if opened.ok.rflags & 2 == 0 {
+        return None;
+    }
+    let seqid = seqid_after(args.seqid);
+    Some(make_confirm(caller, opened, seqid))
+}
+
+// The request that goes on with an OPEN.
+#[tactic(auto, unfolding(crate::specs::Requests::goes_on_by))]
+fn goes_on_opening(caller: Option<Instance>, args: &OpenArgs, value: &ReplyValue) -> Option<Call>
+    ensures { result ≡ goes_on_by caller (OpenDeed args.now) value.now }
+{
+    match value {
+        ReplyValue::Open(Some(opened)) => confirms(caller, args, opened),
+        _ => None,
+    }
+}
+
 // The request that goes on with a READDIR.
-#[tactic(auto, unfolding(crate::specs::ShortRun::goes_on_with))]
-fn goes_on_listing(alloc: Global, args: &ReadDirArgs, value: &ReplyValue) -> Option<Call>
-    ensures { result ≡ goes_on_with (ReadDirDeed args.now) value.now }
+#[tactic(auto, unfolding(crate::specs::Requests::goes_on_by))]
+fn goes_on_listing(
+    alloc: Global,
+    caller: Option<Instance>,
+    args: &ReadDirArgs,
+    value: &ReplyValue,
+) -> Option<Call>
+    ensures { result ≡ goes_on_by caller (ReadDirDeed args.now) value.now }
 {
     match value {
         ReplyValue::ReadDir(Some(ok)) => more_of(alloc, args, ok),
@@ -136,15 +166,17 @@ fn goes_on_listing(alloc: Global, args: &ReadDirArgs, value: &ReplyValue) -> Opt
 }
 
 // The request that goes on with another.
-#[tactic(auto, unfolding(crate::specs::ShortRun::goes_on_with))]
-fn goes_on_with(alloc: Global, deed: &Deed, value: &ReplyValue) -> Option<Call>
-    ensures { result ≡ goes_on_with deed.now value.now }
+#[tactic(auto, unfolding(crate::specs::Requests::goes_on_by))]
+fn goes_on_with(alloc: Global, call: &Call, value: &ReplyValue) -> Option<Call>
+    ensures { result ≡ goes_on_with call.now value.now }
 {
-    match deed {
-        Deed::ReadDir(args) => goes_on_listing(alloc, args, value),
+    match &call.deed {
+        Deed::Open(args) => goes_on_opening(call.caller, args, value),
+        Deed::ReadDir(args) => goes_on_listing(alloc, call.caller, args, value),
         Deed::Access(_) | Deed::Close(_) | Deed::Commit(_) | Deed::Create(_) => None,
-        Deed::GetAttr(_) | Deed::Lookup(_) | Deed::LookupP | Deed::Open(_) => None,
-        Deed::Read(_) | Deed::Remove(_) | Deed::SetAttr(_) | Deed::Write(_) => None,
+        Deed::GetAttr(_) | Deed::Lookup(_) | Deed::LookupP => None,
+        Deed::OpenConfirm(_) | Deed::OpenDowngrade(_) | Deed::Read(_) => None,
+        Deed::Remove(_) | Deed::SetAttr(_) | Deed::Write(_) => None,
     }
 }
 
@@ -159,7 +191,7 @@ fn add_entries(names: &mut Names, entries: &[DirEntry]) -> Result<(), Memory>
 }
 
 // The names that a reply lists, behind others.
-#[tactic(auto, unfolding(crate::specs::ShortRun::names_of))]
+#[tactic(auto, unfolding(crate::specs::Requests::names_of))]
 fn add_names(names: &mut Names, value: &ReplyValue) -> Result<(), Memory>
     ensures { OnOk result (names.new ≡ names.old ++ names_of value.now) }
 {
@@ -178,7 +210,7 @@ fn is_done(status: OpStatus) -> bool
 }
 
 // What a client is told of an OK.
-#[tactic(auto, unfolding(crate::specs::ShortRun::told_ok))]
+#[tactic(auto, unfolding(crate::specs::Requests::told_ok))]
 fn told_ok(value: ReplyValue, names: Names) -> Told
     ensures { result ≡ told_ok value names }
 {
@@ -191,7 +223,7 @@ fn told_ok(value: ReplyValue, names: Names) -> Told
 }
 
 // What a client is told of the last reply, and of the names that all of them listed.
-#[tactic(auto, unfolding(crate::specs::ShortRun::told_by))]
+#[tactic(auto, unfolding(crate::specs::Requests::told_by))]
 fn told_by(reply: Reply, names: Names) -> Told
     ensures { result ≡ told_by reply names }
 {
@@ -241,15 +273,24 @@ impl FileSlots {
         Ok(reply)
     }
 
-    // Makes a request with a pass, and those that go on with it.
-    fn ask(&mut self, server: ServerNum, pass: &FsPass, first: &Call) -> Result<Asked, Memory>
-        ensures { IfOk result (λ asked. asked_in asked self.new ≡ asks_to requests_limit self.old server pass.now.epoch first.now []) }
+    // Makes an action's first request with a pass, and those that go on with it. The client learns from each reply.
+    fn ask(
+        &mut self,
+        clients: &mut Clients,
+        server: ServerNum,
+        pass: &FsPass,
+        client: u32,
+        action: &Action,
+        first: &Call,
+    ) -> Result<Asked, Memory>
+        ensures { IfOk result (λ asked. asked_in asked self.new clients.new ≡ asks_to requests_limit self.old server pass.now.epoch client action.now first.now clients.old []) }
     {
         let mut names = Items::new(self.alloc);
         let mut call = first.copy()?;
         for _count in 0..REQUESTS_LIMIT {
             let reply = self.request(server, pass, &call, &mut names)?;
-            match goes_on_with(self.alloc, &call.deed, &reply.value) {
+            clients.learn(client, action, &call.deed, &reply)?;
+            match goes_on_with(self.alloc, &call, &reply.value) {
                 Some(next) => call = next,
                 None => {
                     return Ok(Asked {
@@ -262,7 +303,7 @@ impl FileSlots {
         Ok(Asked { reply: None, names })
     }
 
-    // What a client knows then, and is told.
+    // What a client is told then.
     #[tactic(auto, unfolding(crate::specs::Tables::asked_to))]
     fn tell(
         &self,
@@ -279,7 +320,6 @@ impl FileSlots {
             return Ok(Told::Stopped);
         };
         clients.put_down(client);
-        clients.learn(client, action, &reply)?;
         Ok(told_by(reply, names))
     }
 
@@ -296,7 +336,7 @@ impl FileSlots {
     ) -> Result<Told, Memory>
         ensures { IfOk result (λ told. tried_to told self.new clients.new ≡ calls_to self.old server pass.epoch client action.now call.now clients.old) }
     {
-        let asked = self.ask(server, &pass, call)?;
+        let asked = self.ask(clients, server, &pass, client, action, call)?;
         self.leave(server, pass);
         Ok(self.tell(clients, asked, client, action)?)
     }

@@ -1,16 +1,12 @@
-//! What the clients of a script know, and what they send.
-ghost use Rattle.std.specs.Prelude.{◌≡◌, ◌==◌, ◌≤◌, ◌++◌, not, length, filter, find, codes, IfOk, OnOk, option_copied, option_map};
+//! What the clients of a script know.
+ghost use Rattle.std.specs.Prelude.{◌≡◌, ◌==◌, not, filter, find, map, IfOk, OnOk, option_copied};
 ghost use Rattle.nm_rules.specs.Shares.{next_seqid};
-ghost use Rattle.nm_rules.specs.Wire.{hyper};
-ghost use Rattle.nm_short.specs.Known.{knows_nothing, is_place_of, seqid_of, other_seqids, moved_on, held_of, others_held, holds_opened, holds_closed, learned, learned_open, learned_close, place_of, sent_to, hand_of, put_down, taken_up, party_of, owner_text, no_attributes, size_alone, open_call, close_call, read_call, write_call, size_call, remove_call, mkdir_call, list_call, call_of};
+ghost use Rattle.nm_short.specs.Known.{knows_nothing, is_place_of, is_held_of, seqid_of, other_seqids, moved_on, held_of, others_held, holds_opened, holds_closed, told_stateid, renewed_held, holds_told, learned, learned_opening, learned_open, learned_anew, learned_close, place_of, sent_to, hand_of, put_down, taken_up};
 
 use nm_rules::{
-    Action, Bytes, Call, Claim, CloseAction, CloseArgs, CreateArgs, CreateType, Deed, Fattr, FsNum,
-    Instance, Items, Memory, OpStatus, OpenAction, OpenArgs, OpenType, Principal, ReadAction,
-    ReadArgs, ReadDirArgs, RemoveArgs, Reply, ReplyValue, ServerNum, SetAttrArgs, SizeAction,
-    Stable, StateId, StateRef, WriteAction, WriteArgs,
+    Action, Bytes, CloseAction, Deed, FsNum, Memory, OpStatus, OpenAction, Reply, ReplyValue,
+    ServerNum, StateId,
 };
-use nm_script::ClientRow;
 use std::alloc::Global;
 use std::marker::Model;
 
@@ -57,7 +53,7 @@ pub struct InHand {
 /// What all clients know.
 #[derive(Debug, Drop)]
 pub struct Clients {
-    alloc: Global,
+    pub(crate) alloc: Global,
     seqids: Vec<OwnerSeqid>,
     held: Vec<HeldOpen>,
     places: Vec<Believed>,
@@ -90,8 +86,8 @@ fn drop_seqid(rows: &mut Vec<OwnerSeqid>, client: u32, fs: FsNum, owner: &[u8])
     rows.retain(|row| !(row.client == client && row.fs == fs && row.owner.items() == owner));
 }
 
-// The seqid after one.
-fn seqid_after(n: u32) -> u32
+/// The seqid after one (RFC 7530, 9.1.7).
+pub fn seqid_after(n: u32) -> u32
     ensures { result ≡ next_seqid n }
 {
     if n == u32::MAX { 1 } else { n + 1 }
@@ -122,6 +118,13 @@ fn move_on(
     Ok(())
 }
 
+// An owner of a client holds that open on the file.
+fn is_held_of(row: &HeldOpen, client: u32, fs: FsNum, owner: &[u8], file: &[u8]) -> bool
+    ensures { result ≡ is_held_of client fs owner.now file.now row.now }
+{
+    row.client == client && row.fs == fs && row.owner.items() == owner && row.file.items() == file
+}
+
 // What an owner of a client holds on a file.
 #[tactic(auto, unfolding(crate::specs::Known::held_of))]
 fn find_held<'a>(
@@ -133,20 +136,15 @@ fn find_held<'a>(
 ) -> Option<&'a HeldOpen>
     ensures { option_copied result ≡ held_of client fs owner.now file.now rows.now }
 {
-    rows.iter().find(|row| row.client == client
-        && row.fs == fs
-        && row.owner.items() == owner
-        && row.file.items() == file)
+    rows.iter()
+        .find(|row| is_held_of(row, client, fs, owner, file))
 }
 
 // What all others hold.
 fn drop_held(rows: &mut Vec<HeldOpen>, client: u32, fs: FsNum, owner: &[u8], file: &[u8])
     ensures { rows.new.items ≡ others_held client fs owner.now file.now rows.old.items }
 {
-    rows.retain(|row| !(row.client == client
-        && row.fs == fs
-        && row.owner.items() == owner
-        && row.file.items() == file));
+    rows.retain(|row| !is_held_of(row, client, fs, owner, file));
 }
 
 // What the reply to an OPEN leaves in a client's hands.
@@ -185,6 +183,44 @@ fn hold_closed(rows: &mut Vec<HeldOpen>, client: u32, a: &CloseAction, value: &R
     }
 }
 
+// The stateid that a reply tells anew.
+#[tactic(auto, unfolding(crate::specs::Known::told_stateid))]
+fn told_stateid(value: &ReplyValue) -> Option<StateId>
+    ensures { result ≡ told_stateid value.now }
+{
+    match value {
+        ReplyValue::OpenConfirm(stateid) | ReplyValue::OpenDowngrade(stateid) => *stateid,
+        _ => None,
+    }
+}
+
+// What an owner holds on the file has that stateid then.
+fn renew_row(row: &mut HeldOpen, client: u32, a: &OpenAction, id: StateId)
+    ensures { row.new ≡ renewed_held client a.now id row.old }
+{
+    if is_held_of(row, client, a.fs, a.owner.items(), a.file.items()) {
+        row.stateid = id;
+    }
+}
+
+// What an owner holds on a file has that stateid then.
+fn renew_held(rows: &mut Vec<HeldOpen>, client: u32, a: &OpenAction, id: StateId)
+    ensures { rows.new.items ≡ map (renewed_held client a.now id) rows.old.items }
+{
+    for row in rows.iter_mut() {
+        renew_row(row, client, a, id);
+    }
+}
+
+// What the reply to an OPEN_CONFIRM or to an OPEN_DOWNGRADE leaves in a client's hands.
+fn hold_told(rows: &mut Vec<HeldOpen>, client: u32, a: &OpenAction, value: &ReplyValue)
+    ensures { rows.new.items ≡ holds_told client a.now (told_stateid value.now) rows.old.items }
+{
+    if let Some(id) = told_stateid(value) {
+        renew_held(rows, client, a, id);
+    }
+}
+
 // Where a client believes a file system to be.
 #[tactic(auto, unfolding(crate::specs::Known::place_of))]
 fn find_place(rows: &[Believed], client: u32, fs: FsNum, first: ServerNum) -> ServerNum
@@ -218,242 +254,6 @@ fn find_hand<'a>(rows: &'a [InHand], client: u32) -> Option<&'a InHand>
     rows.iter().find(|row| row.client == client)
 }
 
-// Bytes behind others.
-fn joined(alloc: Global, front: &[u8], back: &[u8]) -> Result<Vec<u8>, Memory>
-    ensures { IfOk result (λ bytes. bytes.items ≡ front.now ++ back.now) }
-{
-    let mut bytes = Vec::from_slice(alloc, front)?;
-    bytes.extend_from_slice(back)?;
-    Ok(bytes)
-}
-
-// A client's instance.
-#[tactic(auto, unfolding(crate::specs::Known::party_of))]
-fn instance_of(alloc: Global, client: u32, row: &ClientRow) -> Result<Instance, Memory>
-    requires { length row.now.name ≤ 16 }
-    ensures { IfOk result (λ instance. instance ≡ party_of client row.now) }
-{
-    let id = joined(alloc, b"nfsmove/", row.name.items())?;
-    let principal = Principal {
-        flavor: 1,
-        uid: client,
-    };
-    match Instance::make(&id, row.verifier, principal) {
-        Ok(instance) => Ok(instance),
-        Err(_) => unreachable!(),
-    }
-}
-
-// An owner's text.
-#[tactic(auto, unfolding(crate::specs::Known::owner_text))]
-fn text_of_owner(alloc: Global, row: &ClientRow, owner: &Bytes) -> Result<Bytes, Memory>
-    ensures { IfOk result (λ text. text ≡ owner_text row.now owner.now) }
-{
-    let mut text = joined(alloc, row.name.items(), b"/")?;
-    text.extend_from_slice(owner.items())?;
-    Ok(Items::from_slice(alloc, &text)?)
-}
-
-// No attributes.
-fn no_attributes(alloc: Global) -> Fattr
-    ensures { result ≡ no_attributes }
-{
-    Fattr {
-        words: Items::new(alloc),
-        values: Items::new(alloc),
-    }
-}
-
-// The eight bytes of a size.
-#[tactic(auto, unfolding(nm_rules::specs::Wire::hyper))]
-fn bytes_of_size(alloc: Global, size: u64) -> Result<Bytes, Memory>
-    ensures { IfOk result (λ bytes. bytes ≡ hyper size) }
-{
-    Ok(Items::from_slice(alloc, &size.to_be_bytes())?)
-}
-
-// A size alone.
-fn size_alone(alloc: Global, size: u64) -> Result<Fattr, Memory>
-    ensures { IfOk result (λ fattr. fattr ≡ size_alone size) }
-{
-    Ok(Fattr {
-        words: Items::from_slice(alloc, &[16])?,
-        values: bytes_of_size(alloc, size)?,
-    })
-}
-
-// The call of an OPEN.
-#[tactic(auto, unfolding(crate::specs::Known::open_call))]
-fn make_open(
-    alloc: Global,
-    client: u32,
-    row: &ClientRow,
-    a: &OpenAction,
-    opentype: OpenType,
-    seqid: u32,
-) -> Result<Call, Memory>
-    requires { length row.now.name ≤ 16 }
-    ensures { IfOk result (λ call. call ≡ open_call client row.now a.now opentype seqid) }
-{
-    let args = OpenArgs {
-        seqid,
-        access: a.access,
-        deny: a.deny,
-        owner: text_of_owner(alloc, row, &a.owner)?,
-        opentype,
-        claim: Claim::Null(a.file.copy()?),
-    };
-    Ok(Call {
-        caller: Some(instance_of(alloc, client, row)?),
-        file: 1,
-        deed: Deed::Open(args),
-    })
-}
-
-// The call of a CLOSE.
-#[tactic(auto, unfolding(crate::specs::Known::close_call))]
-fn make_close(
-    alloc: Global,
-    client: u32,
-    row: &ClientRow,
-    held: &HeldOpen,
-    seqid: u32,
-) -> Result<Call, Memory>
-    requires { length row.now.name ≤ 16 }
-    ensures { IfOk result (λ call. call ≡ close_call client row.now held.now seqid) }
-{
-    let args = CloseArgs {
-        seqid,
-        stateid: StateRef::Named(held.stateid),
-    };
-    Ok(Call {
-        caller: Some(instance_of(alloc, client, row)?),
-        file: held.handle,
-        deed: Deed::Close(args),
-    })
-}
-
-// The call of a READ.
-#[tactic(auto, unfolding(crate::specs::Known::read_call))]
-fn make_read(
-    alloc: Global,
-    client: u32,
-    row: &ClientRow,
-    a: &ReadAction,
-    held: &HeldOpen,
-) -> Result<Call, Memory>
-    requires { length row.now.name ≤ 16 }
-    ensures { IfOk result (λ call. call ≡ read_call client row.now a.now held.now) }
-{
-    let open = StateRef::Named(held.stateid);
-    let args = ReadArgs {
-        stateid: open,
-        offset: a.offset,
-        count: a.count,
-    };
-    Ok(Call {
-        caller: Some(instance_of(alloc, client, row)?),
-        file: held.handle,
-        deed: Deed::Read(args),
-    })
-}
-
-// The call of a WRITE.
-#[tactic(auto, unfolding(crate::specs::Known::write_call))]
-fn make_write(
-    alloc: Global,
-    client: u32,
-    row: &ClientRow,
-    a: &WriteAction,
-    held: &HeldOpen,
-) -> Result<Call, Memory>
-    requires { length row.now.name ≤ 16 }
-    ensures { IfOk result (λ call. call ≡ write_call client row.now a.now held.now) }
-{
-    let args = WriteArgs {
-        stateid: StateRef::Named(held.stateid),
-        offset: a.offset,
-        stable: Stable::FileSync,
-        data: a.data.copy()?,
-    };
-    Ok(Call {
-        caller: Some(instance_of(alloc, client, row)?),
-        file: held.handle,
-        deed: Deed::Write(args),
-    })
-}
-
-// The call of a SETATTR of a size.
-#[tactic(auto, unfolding(crate::specs::Known::size_call))]
-fn make_size(
-    alloc: Global,
-    client: u32,
-    row: &ClientRow,
-    a: &SizeAction,
-    held: &HeldOpen,
-) -> Result<Call, Memory>
-    requires { length row.now.name ≤ 16 }
-    ensures { IfOk result (λ call. call ≡ size_call client row.now a.now held.now) }
-{
-    let args = SetAttrArgs {
-        stateid: StateRef::Named(held.stateid),
-        attributes: size_alone(alloc, a.size)?,
-    };
-    Ok(Call {
-        caller: Some(instance_of(alloc, client, row)?),
-        file: held.handle,
-        deed: Deed::SetAttr(args),
-    })
-}
-
-// The call of a REMOVE.
-#[tactic(auto, unfolding(crate::specs::Known::remove_call))]
-fn make_remove(name: &Bytes) -> Result<Call, Memory>
-    ensures { IfOk result (λ call. call ≡ remove_call name.now) }
-{
-    Ok(Call {
-        caller: None,
-        file: 1,
-        deed: Deed::Remove(RemoveArgs { name: name.copy()? }),
-    })
-}
-
-// The call of a CREATE of a directory.
-#[tactic(auto, unfolding(crate::specs::Known::mkdir_call))]
-fn make_directory(alloc: Global, name: &Bytes) -> Result<Call, Memory>
-    ensures { IfOk result (λ call. call ≡ mkdir_call name.now) }
-{
-    let args = CreateArgs {
-        kind: CreateType::Directory,
-        name: name.copy()?,
-        attributes: no_attributes(alloc),
-    };
-    Ok(Call {
-        caller: None,
-        file: 1,
-        deed: Deed::Create(args),
-    })
-}
-
-/// The call of a READDIR of the root: the entries behind a cookie.
-#[tactic(auto, unfolding(crate::specs::Known::list_call))]
-pub fn make_list(alloc: Global, cookie: u64) -> Call
-    ensures { result ≡ list_call cookie }
-{
-    let args = ReadDirArgs {
-        cookie,
-        verifier: 0,
-        dircount: 0,
-        maxcount: 65536,
-        words: Items::new(alloc),
-    };
-    Call {
-        caller: None,
-        file: 1,
-        deed: Deed::ReadDir(args),
-    }
-}
-
 impl Clients {
     /// Clients that know nothing yet. It takes no memory.
     pub fn new(alloc: Global) -> Clients
@@ -468,125 +268,18 @@ impl Clients {
         }
     }
 
-    // The next seqid of an owner.
-    fn seqid_of(&self, client: u32, fs: FsNum, owner: &Bytes) -> u32
+    /// The next seqid of an owner.
+    pub fn seqid_of(&self, client: u32, fs: FsNum, owner: &Bytes) -> u32
         ensures { result ≡ seqid_of client fs owner.now self.now.seqids }
     {
         find_seqid(&self.seqids, client, fs, owner.items())
     }
 
-    // What an owner of a client holds on a file.
-    fn held_of(&self, client: u32, fs: FsNum, owner: &Bytes, file: &Bytes) -> Option<&HeldOpen>
+    /// What an owner of a client holds on a file.
+    pub fn held_of(&self, client: u32, fs: FsNum, owner: &Bytes, file: &Bytes) -> Option<&HeldOpen>
         ensures { option_copied result ≡ held_of client fs owner.now file.now self.now.held }
     {
         find_held(&self.held, client, fs, owner.items(), file.items())
-    }
-
-    // The call of an open or of a create.
-    fn open_call(
-        &self,
-        client: u32,
-        row: &ClientRow,
-        a: &OpenAction,
-        opentype: OpenType,
-    ) -> Result<Call, Memory>
-        requires { length row.now.name ≤ 16 }
-        ensures { IfOk result (λ call. call ≡ open_call client row.now a.now opentype (seqid_of client a.now.fs a.now.owner self.now.seqids)) }
-    {
-        let seqid = self.seqid_of(client, a.fs, &a.owner);
-        Ok(make_open(self.alloc, client, row, a, opentype, seqid)?)
-    }
-
-    // The call of a close, where the client holds the open.
-    fn close_call(
-        &self,
-        client: u32,
-        row: &ClientRow,
-        a: &CloseAction,
-    ) -> Result<Option<Call>, Memory>
-        requires { length row.now.name ≤ 16 }
-        ensures { IfOk result (λ call. call ≡ option_map (λ held. close_call client row.now held (seqid_of client a.now.fs a.now.owner self.now.seqids)) (held_of client a.now.fs a.now.owner a.now.file self.now.held)) }
-    {
-        let seqid = self.seqid_of(client, a.fs, &a.owner);
-        match self.held_of(client, a.fs, &a.owner, &a.file) {
-            Some(held) => Ok(Some(make_close(self.alloc, client, row, held, seqid)?)),
-            None => Ok(None),
-        }
-    }
-
-    // The call of a read, where the client holds the open.
-    fn read_call(
-        &self,
-        client: u32,
-        row: &ClientRow,
-        a: &ReadAction,
-    ) -> Result<Option<Call>, Memory>
-        requires { length row.now.name ≤ 16 }
-        ensures { IfOk result (λ call. call ≡ option_map (read_call client row.now a.now) (held_of client a.now.fs a.now.owner a.now.file self.now.held)) }
-    {
-        match self.held_of(client, a.fs, &a.owner, &a.file) {
-            Some(held) => Ok(Some(make_read(self.alloc, client, row, a, held)?)),
-            None => Ok(None),
-        }
-    }
-
-    // The call of a write, where the client holds the open.
-    fn write_call(
-        &self,
-        client: u32,
-        row: &ClientRow,
-        a: &WriteAction,
-    ) -> Result<Option<Call>, Memory>
-        requires { length row.now.name ≤ 16 }
-        ensures { IfOk result (λ call. call ≡ option_map (write_call client row.now a.now) (held_of client a.now.fs a.now.owner a.now.file self.now.held)) }
-    {
-        match self.held_of(client, a.fs, &a.owner, &a.file) {
-            Some(held) => Ok(Some(make_write(self.alloc, client, row, a, held)?)),
-            None => Ok(None),
-        }
-    }
-
-    // The call of a change of size, where the client holds the open.
-    fn size_call(
-        &self,
-        client: u32,
-        row: &ClientRow,
-        a: &SizeAction,
-    ) -> Result<Option<Call>, Memory>
-        requires { length row.now.name ≤ 16 }
-        ensures { IfOk result (λ call. call ≡ option_map (size_call client row.now a.now) (held_of client a.now.fs a.now.owner a.now.file self.now.held)) }
-    {
-        match self.held_of(client, a.fs, &a.owner, &a.file) {
-            Some(held) => Ok(Some(make_size(self.alloc, client, row, a, held)?)),
-            None => Ok(None),
-        }
-    }
-
-    /// The call that a client's action sends first. `None` exactly where it needs a stateid that the client hasn't.
-    #[tactic(auto, unfolding(crate::specs::Known::call_of))]
-    pub fn call_of(
-        &self,
-        client: u32,
-        row: &ClientRow,
-        action: &Action,
-    ) -> Result<Option<Call>, Memory>
-        requires { length row.now.name ≤ 16 }
-        ensures { IfOk result (λ call. call ≡ call_of client row.now self.now action.now) }
-    {
-        match action {
-            Action::Open(a) => Ok(Some(self.open_call(client, row, a, OpenType::NoCreate)?)),
-            Action::Create(a) => {
-                let opentype = OpenType::Unchecked(no_attributes(self.alloc));
-                Ok(Some(self.open_call(client, row, a, opentype)?))
-            }
-            Action::Close(a) => Ok(self.close_call(client, row, a)?),
-            Action::Read(a) => Ok(self.read_call(client, row, a)?),
-            Action::Write(a) => Ok(self.write_call(client, row, a)?),
-            Action::Size(a) => Ok(self.size_call(client, row, a)?),
-            Action::Remove(a) => Ok(Some(make_remove(&a.file)?)),
-            Action::MkDir(a) => Ok(Some(make_directory(self.alloc, &a.file)?)),
-            Action::List(_) => Ok(Some(make_list(self.alloc, 0))),
-        }
     }
 
     // The reply to an OPEN.
@@ -595,6 +288,15 @@ impl Clients {
     {
         move_on(&mut self.seqids, client, a.fs, &a.owner, reply.status)?;
         Ok(hold_opened(&mut self.held, client, a, &reply.value)?)
+    }
+
+    // The reply to an OPEN_CONFIRM or to an OPEN_DOWNGRADE.
+    fn learn_anew(&mut self, client: u32, a: &OpenAction, reply: &Reply) -> Result<(), Memory>
+        ensures { OnOk result (self.new ≡ learned_anew client a.now reply.now self.old) }
+    {
+        move_on(&mut self.seqids, client, a.fs, &a.owner, reply.status)?;
+        hold_told(&mut self.held, client, a, &reply.value);
+        Ok(())
     }
 
     // The reply to a CLOSE.
@@ -606,14 +308,39 @@ impl Clients {
         Ok(())
     }
 
-    /// The reply to a client's action. After want of memory nothing is promised of what is known.
+    // The reply to an operation of an open or of a create.
+    #[tactic(auto, unfolding(crate::specs::Known::learned_opening))]
+    fn learn_opening(
+        &mut self,
+        client: u32,
+        a: &OpenAction,
+        deed: &Deed,
+        reply: &Reply,
+    ) -> Result<(), Memory>
+        ensures { OnOk result (self.new ≡ learned_opening client a.now deed.now reply.now self.old) }
+    {
+        match deed {
+            Deed::Open(_) => Ok(self.learn_open(client, a, reply)?),
+            Deed::OpenConfirm(_) => Ok(self.learn_anew(client, a, reply)?),
+            _ => Ok(()),
+        }
+    }
+
+    /// The reply to an operation that a client made for an action. After want of memory nothing is promised of what is known.
     #[tactic(auto, unfolding(crate::specs::Known::learned))]
-    pub fn learn(&mut self, client: u32, action: &Action, reply: &Reply) -> Result<(), Memory>
-        ensures { OnOk result (self.new ≡ learned client action.now reply.now self.old) }
+    pub fn learn(
+        &mut self,
+        client: u32,
+        action: &Action,
+        deed: &Deed,
+        reply: &Reply,
+    ) -> Result<(), Memory>
+        ensures { OnOk result (self.new ≡ learned client action.now deed.now reply.now self.old) }
     {
         match action {
-            Action::Open(a) | Action::Create(a) => Ok(self.learn_open(client, a, reply)?),
+            Action::Open(a) | Action::Create(a) => Ok(self.learn_opening(client, a, deed, reply)?),
             Action::Close(a) => Ok(self.learn_close(client, a, reply)?),
+            Action::Downgrade(a) => Ok(self.learn_anew(client, a, reply)?),
             Action::Read(_) | Action::Write(_) | Action::Size(_) => Ok(()),
             Action::Remove(_) | Action::MkDir(_) | Action::List(_) => Ok(()),
         }

@@ -11,6 +11,7 @@ mod laws;
 mod names;
 mod orders;
 mod run;
+mod sends;
 mod slots;
 #[cfg(test)]
 mod tests;

@@ -1,4 +1,4 @@
-//! Runs of scripts whose outcomes the rules of moves give.
+//! Runs of scripts whose outcomes the rules of moves, of owners and of names give.
 ghost use Rattle.std.specs.Prelude.{◌≡◌, ◌<◌, ◌≤◌, length};
 ghost use Rattle.nm_script.specs.Grammar.{IsWellFormed};
 
@@ -9,7 +9,7 @@ use nm_slot::Phase;
 use std::alloc::Global;
 use std::test::Fail;
 
-const HEAD: &str = "nfsmove 1
+const HEAD: &[u8] = b"nfsmove 1
 lease 90
 server S1
 server S2
@@ -20,19 +20,11 @@ client C1 7
 client C2 9
 ";
 
-// What these lines print behind that head; nothing where they are no script.
-fn text_of_lines(alloc: Global, lines: &str) -> Result<Vec<u8>, Fail> {
-    let mut text = HEAD.to_string(alloc)?;
-    text.push_str(lines)?;
-    match read_script(alloc, text.as_bytes()) {
-        Ok(script) => Ok(text_of_run(alloc, &script)?),
-        Err(_) => Ok(Vec::new(alloc)),
-    }
-}
-
-#[test]
-fn file_systems_move_apart_from_one_another(rt: HostRuntime) -> Result<(), Fail> {
-    let lines = "do C1 create X f rw none o
+/// Lines behind that head, and what they print.
+const RUNS: [(&[u8], &[u8]); 9] = [
+    // File systems move apart from one another.
+    (
+        b"do C1 create X f rw none o
 do C1 create Y g r w o
 shift X S3
 show X
@@ -40,8 +32,8 @@ show Y
 do C1 close X f o
 show X
 show Y
-";
-    let text = "C1 create OK
+",
+        b"C1 create OK
 C1 create OK
 X closing S1 S3 move 1
 X frozen S1 S3 move 1
@@ -55,25 +47,18 @@ C1 close OK
 X at S3
 Y at S2
   open g C1/o r w
-";
-    assert_eq!(rt;
-        text_of_lines(rt.alloc(), lines)?.as_slice(),
-        text.as_bytes()
-    );
-    Ok(())
-}
-
-// C1 knocks at S1, which sends it to S2, and that to S3.
-#[test]
-fn a_client_follows_two_moves(rt: HostRuntime) -> Result<(), Fail> {
-    let lines = "do C1 create X f r none o
+",
+    ),
+    // C1 knocks at S1, which sends it to S2, and that to S3.
+    (
+        b"do C1 create X f r none o
 shift X S2
 shift X S3
 do C1 close X f o
 do C2 open X f w none p
 shift X S3
-";
-    let text = "C1 create OK
+",
+        b"C1 create OK
 X closing S1 S2 move 1
 X frozen S1 S2 move 1
 X passing S1 S2 move 1
@@ -85,17 +70,11 @@ X at S3
 C1 close OK
 C2 open OK
 X same
-";
-    assert_eq!(rt;
-        text_of_lines(rt.alloc(), lines)?.as_slice(),
-        text.as_bytes()
-    );
-    Ok(())
-}
-
-#[test]
-fn a_client_does_one_thing_at_a_time(rt: HostRuntime) -> Result<(), Fail> {
-    let lines = "do C1 finish
+",
+    ),
+    // A client does one thing at a time.
+    (
+        b"do C1 finish
 move X S2
 do C1 create X f r none o
 do C1 create Y g r none o
@@ -106,8 +85,8 @@ do C1 finish
 settle X
 do C1 finish
 do C1 finish
-";
-    let text = "C1 idle
+",
+        b"C1 idle
 X closing S1 S2 move 1
 C1 create DELAY
 C1 create BUSY
@@ -118,11 +97,171 @@ C1 create DELAY
 X at S2
 C1 create OK
 C1 idle
-";
-    assert_eq!(rt;
-        text_of_lines(rt.alloc(), lines)?.as_slice(),
-        text.as_bytes()
-    );
+",
+    ),
+    // Names come and go in a directory.
+    (
+        b"do C1 create X f rw none o
+do C1 remove X f
+do C1 close X f o
+do C1 remove X f
+do C1 list X
+do C1 mkdir X d
+do C1 mkdir X d
+do C1 open X d r none o
+do C1 list X
+",
+        b"C1 create OK
+C1 remove FILE_OPEN
+C1 close OK
+C1 remove OK
+C1 list OK
+C1 mkdir OK
+C1 mkdir EXIST
+C1 open ISDIR
+C1 list OK d
+",
+    ),
+    // A file is written and cut.
+    (
+        b"do C1 create X f rw none o
+do C1 write X f 0 6869 o
+do C1 read X f 0 10 o
+do C1 size X f 1 o
+do C1 write X f 4 ff o
+do C1 read X f 0 10 o
+do C1 write X f 1048576 00 o
+",
+        b"C1 create OK
+C1 write OK 2
+C1 read OK 6869 eof
+C1 size OK
+C1 write OK 1
+C1 read OK 68000000ff eof
+C1 write FBIG
+",
+    ),
+    // C2 may only read, and never opened g. Its read waits for the move, and finds at S2 what was written at S1.
+    (
+        b"do C1 create X f w none o
+do C1 write X f 2 abcd o
+do C2 open X f r none p
+do C2 write X f 0 ff p
+do C2 read X g 0 4 p
+do C1 read X f 0 4 o
+move X S2
+do C2 read X f 1 2 p
+do C1 list X
+freeze X
+commit X
+settle X
+do C2 finish
+do C1 finish
+do C2 read X f 4 4 p
+do C2 remove X f
+",
+        b"C1 create OK
+C1 write OK 2
+C2 open OK
+C2 write OPENMODE
+C2 read NOSTATE
+C1 read OPENMODE
+X closing S1 S2 move 1
+C2 read DELAY
+C1 list DELAY
+X frozen S1 S2 move 1
+X passing S1 S2 move 1
+X at S2
+C2 read OK 00ab more
+C1 list OK f
+C2 read OK - eof
+C2 remove FILE_OPEN
+",
+    ),
+    // What an owner gives up by a downgrade another one may have.
+    (
+        b"do C1 create X f rw w a
+do C2 open X f w none b
+do C2 open X f r none b
+do C1 downgrade X f r none a
+do C2 open X f w none b
+show X
+",
+        b"C1 create OK
+C2 open SHARE_DENIED
+C2 open OK
+C1 downgrade OK
+C2 open OK
+X at S1
+  open f C1/a r none
+  open f C2/b rw none
+",
+    ),
+    // Without an open nothing is narrowed, and none is widened. What was narrowed at S1 is closed at S2.
+    (
+        b"do C1 downgrade X f r none a
+do C1 create X f rw none a
+do C1 downgrade X f r r a
+do C1 downgrade X f r none a
+do C1 write X f 0 ff a
+shift X S2
+do C1 close X f a
+",
+        b"C1 downgrade NOSTATE
+C1 create OK
+C1 downgrade INVAL
+C1 downgrade OK
+C1 write OPENMODE
+X closing S1 S2 move 1
+X frozen S1 S2 move 1
+X passing S1 S2 move 1
+X at S2
+C1 close OK
+",
+    ),
+    // An owner is confirmed once, also where its first OPEN was refused, and its other opens need no more.
+    (
+        b"do C1 open X f r none o
+do C1 create X f rw none o
+do C1 create X g rw none o
+do C1 write X g 0 ff o
+do C1 open X f r w o
+do C1 close X f o
+do C1 close X g o
+",
+        b"C1 open NOENT
+C1 create OK
+C1 create OK
+C1 write OK 1
+C1 open OK
+C1 close OK
+C1 close OK
+",
+    ),
+];
+
+// The script of these lines behind that head.
+fn script_of(alloc: Global, lines: &[u8]) -> Result<Vec<u8>, Memory> {
+    let mut script = Vec::from_slice(alloc, HEAD)?;
+    script.extend_from_slice(lines)?;
+    Ok(script)
+}
+
+// What these lines print; nothing where they are no script.
+fn text_of_lines(alloc: Global, lines: &[u8]) -> Result<Vec<u8>, Fail> {
+    let source = script_of(alloc, lines)?;
+    match read_script(alloc, &source) {
+        Ok(script) => Ok(text_of_run(alloc, &script)?),
+        Err(_) => Ok(Vec::new(alloc)),
+    }
+}
+
+#[test]
+fn lines_print_what_they_come_to(rt: HostRuntime) -> Result<(), Fail> {
+    for (lines, text) in RUNS {
+        let printed = text_of_lines(rt.alloc(), lines)?;
+        assert_eq!(rt; printed.as_slice(), text);
+    }
     Ok(())
 }
 
@@ -166,10 +305,9 @@ fn phases_of(alloc: Global, script: &Script) -> Result<Vec<[Option<Phase>; 2]>, 
 }
 
 // The phases behind the head for these lines; nothing where they are no script.
-fn phases_of_lines(alloc: Global, lines: &str) -> Result<Vec<[Option<Phase>; 2]>, Fail> {
-    let mut text = HEAD.to_string(alloc)?;
-    text.push_str(lines)?;
-    match read_script(alloc, text.as_bytes()) {
+fn phases_of_lines(alloc: Global, lines: &[u8]) -> Result<Vec<[Option<Phase>; 2]>, Fail> {
+    let source = script_of(alloc, lines)?;
+    match read_script(alloc, &source) {
         Ok(script) => Ok(phases_of(alloc, &script)?),
         Err(_) => Ok(Vec::new(alloc)),
     }
@@ -178,7 +316,7 @@ fn phases_of_lines(alloc: Global, lines: &str) -> Result<Vec<[Option<Phase>; 2]>
 // Before the commit S1 has the state, and after the settle S2. Between them none does.
 #[test]
 fn one_server_has_it_after_each_step(rt: HostRuntime) -> Result<(), Fail> {
-    let lines = "move X S2\nfreeze X\ncommit X\nsettle X\n";
+    let lines = b"move X S2\nfreeze X\ncommit X\nsettle X\n";
     let dest = server(1);
     let number = MoveNum::new(1);
     let gone = Phase::Gone {
@@ -198,104 +336,6 @@ fn one_server_has_it_after_each_step(rt: HostRuntime) -> Result<(), Fail> {
     assert_eq!(rt;
         phases_of_lines(rt.alloc(), lines)?.as_slice(),
         wanted.as_slice()
-    );
-    Ok(())
-}
-
-#[test]
-fn names_come_and_go_in_a_directory(rt: HostRuntime) -> Result<(), Fail> {
-    let lines = "do C1 create X f rw none o
-do C1 remove X f
-do C1 close X f o
-do C1 remove X f
-do C1 list X
-do C1 mkdir X d
-do C1 mkdir X d
-do C1 open X d r none o
-do C1 list X
-";
-    let text = "C1 create OK
-C1 remove FILE_OPEN
-C1 close OK
-C1 remove OK
-C1 list OK
-C1 mkdir OK
-C1 mkdir EXIST
-C1 open ISDIR
-C1 list OK d
-";
-    assert_eq!(rt;
-        text_of_lines(rt.alloc(), lines)?.as_slice(),
-        text.as_bytes()
-    );
-    Ok(())
-}
-
-#[test]
-fn a_file_is_written_and_cut(rt: HostRuntime) -> Result<(), Fail> {
-    let lines = "do C1 create X f rw none o
-do C1 write X f 0 6869 o
-do C1 read X f 0 10 o
-do C1 size X f 1 o
-do C1 write X f 4 ff o
-do C1 read X f 0 10 o
-do C1 write X f 1048576 00 o
-";
-    let text = "C1 create OK
-C1 write OK 2
-C1 read OK 6869 eof
-C1 size OK
-C1 write OK 1
-C1 read OK 68000000ff eof
-C1 write FBIG
-";
-    assert_eq!(rt;
-        text_of_lines(rt.alloc(), lines)?.as_slice(),
-        text.as_bytes()
-    );
-    Ok(())
-}
-
-// C2 may only read, and never opened g. Its read waits for the move, and finds at S2 what was written at S1.
-#[test]
-fn bytes_go_with_a_move(rt: HostRuntime) -> Result<(), Fail> {
-    let lines = "do C1 create X f w none o
-do C1 write X f 2 abcd o
-do C2 open X f r none p
-do C2 write X f 0 ff p
-do C2 read X g 0 4 p
-do C1 read X f 0 4 o
-move X S2
-do C2 read X f 1 2 p
-do C1 list X
-freeze X
-commit X
-settle X
-do C2 finish
-do C1 finish
-do C2 read X f 4 4 p
-do C2 remove X f
-";
-    let text = "C1 create OK
-C1 write OK 2
-C2 open OK
-C2 write OPENMODE
-C2 read NOSTATE
-C1 read OPENMODE
-X closing S1 S2 move 1
-C2 read DELAY
-C1 list DELAY
-X frozen S1 S2 move 1
-X passing S1 S2 move 1
-X at S2
-C2 read OK 00ab more
-C1 list OK f
-C2 read OK - eof
-C2 remove FILE_OPEN
-";
-    assert_eq!(rt;
-        text_of_lines(rt.alloc(), lines)?.as_slice(),
-        text.as_bytes()
     );
     Ok(())
 }

@@ -1,5 +1,5 @@
 use Rattle.std.proofs.Common.{◌≡◌, drop}
-use Rattle.nm_short.specs.ShortRun.{last_cookie}
+use Rattle.nm_short.specs.Requests.{last_cookie}
 use Rattle.nm_short.proofs.asks.last_cookie.Given as goal
 
 -- the entries that are left tell the last cookie of all

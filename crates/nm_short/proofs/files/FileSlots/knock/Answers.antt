@@ -1,6 +1,6 @@
 use Rattle.std.proofs.Common.{sym, ◌∙◌}
 use Rattle.nm_short.proofs.FileLemmas.{knocked_on, knocked_in, knocked_out}
-use Rattle.nm_short.specs.ShortRun.{requests_limit}
+use Rattle.nm_short.specs.Requests.{requests_limit}
 use Rattle.nm_short.proofs.files.FileSlots.knock.Goals as goal
 
 pub returns-in-None : goal.returns-in-None

@@ -1,5 +1,5 @@
 use Rattle.std.proofs.Common.{◌≡◌, ◌-◌}
-use Rattle.nm_short.specs.ShortRun.{requests_limit}
+use Rattle.nm_short.specs.Requests.{requests_limit}
 use Rattle.nm_short.specs.Tables.{knocks_to}
 use Rattle.nm_short.proofs.files.FileSlots.knock.Given as goal
 
