@@ -130,8 +130,3 @@ pub fn read_script(alloc: Global, bytes: &[u8]) -> Result<Script, ScriptFault>
 {
     read_source(alloc, bytes)
 }
-
-#[cfg(test)]
-mod story;
-#[cfg(test)]
-mod tests;

@@ -106,6 +106,3 @@ pub fn usage_text(alloc: Global) -> Result<Vec<u8>, Memory>
     append(&mut out, b"usage: nfsmove replay | nfsmove live\n")?;
     Ok(out)
 }
-
-#[cfg(test)]
-mod tests;

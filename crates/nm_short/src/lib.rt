@@ -13,8 +13,6 @@ mod orders;
 mod run;
 mod sends;
 mod slots;
-#[cfg(test)]
-mod tests;
 
 pub use laws::one_server_has_each_file_system;
 pub use run::{Run, text_of_run};

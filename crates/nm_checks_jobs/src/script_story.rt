@@ -1,7 +1,6 @@
 //! What each kind of line says.
-use super::read_script;
-use crate::{ClientRow, FsRow, Head, Line, ScriptFault, ServerRow};
 use nm_rules::{Action, Bytes, Memory, NameAction, OpenAction};
+use nm_script::{ClientRow, FsRow, Head, Line, ScriptFault, ServerRow, read_script};
 use std::alloc::Global;
 use std::test::*;
 

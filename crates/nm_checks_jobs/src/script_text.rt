@@ -1,11 +1,11 @@
-use super::{fault_text, held_text, line_text, usage_text};
-use crate::{
-    HeldReport, IdleRow, MoveNames, MoveRow, MoveTold, Names, OutcomeRow, PhaseNow, PhaseReport,
-    Report, ReportRow, Told, Why,
-};
+//! What is printed of reports and faults.
 use nm_rules::{
     Bytes, Cause, HeldKind, HeldRow, HeldTable, Instance, Items, Memory, MoveNum, OpStatus,
     Principal, ReadOk, Verb,
+};
+use nm_script::{
+    HeldReport, IdleRow, MoveNames, MoveRow, MoveTold, Names, OutcomeRow, PhaseNow, PhaseReport,
+    Report, ReportRow, Told, Why, fault_text, held_text, line_text, usage_text,
 };
 use std::alloc::Global;
 use std::test::Fail;

@@ -2,9 +2,9 @@
 ghost use Rattle.std.specs.Prelude.{◌≡◌, ◌<◌, ◌≤◌, length};
 ghost use Rattle.nm_script.specs.Grammar.{IsWellFormed};
 
-use crate::{Run, text_of_run};
 use nm_rules::{Epoch, FsNum, Memory, MoveNum, ServerNum};
 use nm_script::{Script, read_script};
+use nm_short::{Run, text_of_run};
 use nm_slot::Phase;
 use std::alloc::Global;
 use std::test::Fail;
@@ -287,7 +287,7 @@ fn server(n: u32) -> ServerNum
 }
 
 // What S1 and S2 do with X after each line.
-#[tactic(auto, using(crate::proofs::FileFirst::clients_are_short))]
+#[tactic(auto, using(nm_short::proofs::FileFirst::clients_are_short))]
 fn phases_of(alloc: Global, script: &Script) -> Result<Vec<[Option<Phase>; 2]>, Memory>
     requires formed { IsWellFormed script.now }
     requires few { length script.now.head.file_systems ≤ 64 }

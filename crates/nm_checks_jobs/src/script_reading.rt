@@ -1,6 +1,6 @@
-use super::read_script;
-use crate::{ScriptFault, Why};
+//! Sources that are no script: the first bad line, and why it is bad.
 use nm_rules::Memory;
+use nm_script::{ScriptFault, Why, read_script};
 use std::alloc::Global;
 use std::test::*;
 
