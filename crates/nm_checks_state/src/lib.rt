@@ -8,4 +8,6 @@ mod owners;
 #[cfg(test)]
 mod shares;
 #[cfg(test)]
+mod slot;
+#[cfg(test)]
 mod tree;

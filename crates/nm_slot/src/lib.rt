@@ -12,8 +12,6 @@ mod phase;
 mod slot;
 mod source;
 mod stage;
-#[cfg(test)]
-mod tests;
 
 pub use answers::{Abandon, Accept, Answer, Begin, Commit, Enter, Freeze, Install};
 pub use image::Image;

@@ -2,12 +2,12 @@
 ghost use Rattle.std.specs.Prelude.{◌≡◌, ◌≤◌, ◌^◌, IfOk};
 ghost use Rattle.nm_slot.specs.Images.{MayBeOffered};
 
-use crate::{
-    Abandon, Accept, Answer, Begin, Commit, Enter, Freeze, FsPass, Image, Install, Phase, Slot,
-};
 use nm_rules::{
     Bytes, Call, Claim, Deed, Epoch, Fattr, FsNum, Instance, Memory, MoveNum, OpStatus, OpenArgs,
     OpenType, Principal, ServerNum, Verdict, Words,
+};
+use nm_slot::{
+    Abandon, Accept, Answer, Begin, Commit, Enter, Freeze, FsPass, Image, Install, Phase, Slot,
 };
 use nm_state::FsState;
 use std::alloc::Global;
