@@ -4,3 +4,4 @@ pub mod EditLemmas
 pub mod HolderLemmas
 pub mod OpeningLemmas
 pub mod PageLemmas
+pub mod TurnLemmas
