@@ -5,3 +5,4 @@ pub mod HolderLemmas
 pub mod OpeningLemmas
 pub mod PageLemmas
 pub mod TurnLemmas
+pub mod WentLemmas

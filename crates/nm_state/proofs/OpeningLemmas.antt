@@ -10,7 +10,7 @@ use Rattle.nm_rules.specs.Shares.{open_at, open_of, put_open, opens_after}
 use Rattle.nm_rules.specs.Past.{Words, words, no_words, with_owners, is_done, deed_words, judgement_for, noted, owner_word, seqid_owner, claimed_name, claimed_in, opener, open_tree, opentype_asks, cuts}
 use Rattle.nm_rules.specs.Seqids.OwnerWord.{Stays}
 use Rattle.nm_rules.specs.Seen.{Seen, look, after, after_words, empty}
-use Rattle.nm_rules.specs.Opens.{GoesOpen, open_checks, close_checks, close_checks_at, open_value, close_value, closed_stateid, open_named, row_to_open, file_to_open, target, tree_limit}
+use Rattle.nm_rules.specs.Opens.{GoesOpen, file_to_open, target, tree_limit}
 use Rattle.nm_rules.specs.Answer.{answer_to, reply_by, reply_with, refused_value, ok_value, checks}
 use Rattle.nm_rules.specs.Checks.{Stop, first, refusal, refuse_if}
 use Rattle.nm_rules.specs.Files.{changes_past_end, sized_limit}
@@ -38,7 +38,7 @@ use Rattle.nm_rules.specs.declared.rows.OpenRow.{OpenRow}
 use Rattle.nm_rules.proofs.Legal.{words-refused, sound-after}
 use Rattle.nm_rules.proofs.OwnerLaws.{same-after}
 use Rattle.nm_shares.specs.Rows.{row_to_take, last_after}
-use Rattle.nm_state.specs.Opening.{open_word, after_word, after_taking, after_open, after_drop, after_end, Applied, HasRoom}
+use Rattle.nm_state.specs.Opening.{open_word, after_word, after_taking, after_open, after_end, Applied, HasRoom}
 
 -- what a call is answered, by what stops it
 pub stopped_answer : (s : Seen) (call : Call) (verdict : Verdict) (x : Option Stop) → first (checks s call.caller call.file verdict call.deed) ≡ x
@@ -64,16 +64,16 @@ no_owner : (s : Seen) (call : Call) (verdict : Verdict) (r : Reply) → HasNone 
 unfolding words judgement_for noted
 no_owner s call verdict r none = rw none refl
 
+stays_put : (s : Seen) (call : Call) (r : Reply) → HasNone s call → owner_word (look s) call r ≡ Stays
+unfolding judgement_for noted
+stays_put s call r none = rw none refl
+
 -- a refusal leaves all as it was
 after-refused : (s : Seen) (call : Call) (verdict : Verdict) (status : OpStatus) → HasNone s call
     → after s (Asked call verdict) (reply_with status (refused_value call.deed)) ≡ s
 after-refused s call verdict status none =
     ap (after_words s) (words-refused (look s) call verdict status ∙ ap (with_owners no_words) (stays_put s call (reply_with status (refused_value call.deed)) none))
     ∙ same-after s
-  where
-    stays_put : (s : Seen) (call : Call) (r : Reply) → HasNone s call → owner_word (look s) call r ≡ Stays
-    unfolding judgement_for noted
-    stays_put s call r none = rw none refl
 
 -- a call that is refused
 pub applied_refused : (s : Seen) (call : Call) (verdict : Verdict) (status : OpStatus) → HasNone s call

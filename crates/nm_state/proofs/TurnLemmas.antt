@@ -14,6 +14,8 @@ use Rattle.nm_rules.specs.Seqids.{OwnerWord, advances, closed_after, is_fresh, j
 use Rattle.nm_rules.specs.Seqids.OwnerWord.{Stays}
 use Rattle.nm_rules.specs.Shares.{open_at}
 use Rattle.nm_rules.specs.Stateids.{is_own, judged_stop, owner_stop, owner_stop_at, resolved, unresolved_at}
+use Rattle.nm_rules.specs.declared.args.Claim.{Claim}
+use Rattle.nm_rules.specs.declared.args.Claim.TheVariants.{Null, Previous, DelegateCur, DelegatePrev}
 use Rattle.nm_rules.specs.declared.args.CloseArgs.{CloseArgs}
 use Rattle.nm_rules.specs.declared.args.OpenArgs.{OpenArgs}
 use Rattle.nm_rules.specs.declared.args.OpenConfirmArgs.{OpenConfirmArgs}
@@ -46,10 +48,10 @@ use Rattle.nm_state.specs.declared.seqids.Turn.TheVariants.{Answered, Of}
 
 -- An owner stays with a status that doesn't advance.
 stays_put : (n : Now) (call : Call) (r : Reply) → advances r.status ≡ false → owner_word n call r ≡ Stays
+unfolding noted
 stays_put n call r stays = by_fresh (is_fresh (judgement n call)) (seqid_owner n call.caller call.deed)
   where
     by_fresh : (b : Bool) (o : Option Owner) → cond b (noted n call r o) Stays ≡ Stays
-    unfolding noted
     by_fresh true None = refl
     by_fresh true (Some owner) = rw stays refl
     by_fresh false o = refl
@@ -149,31 +151,35 @@ at_turn s call verdict seqid stateid unresolved stops its = by_row (resolved s s
     by_row None found own stops = bad own
     by_row (Some row) found own stops = by_own row (is_own call.caller row) found own stops
 
-pub close_turn : (s : Seen) (caller : Option Party) (file : ℕ) (args : CloseArgs) (verdict : Verdict)
+close_turn_of : (s : Seen) (caller : Option Party) (file : ℕ) (args : CloseArgs) (verdict : Verdict)
     → IsTurn s (record { caller = caller; file = file; deed = deed.Close args }) verdict (turn_at s (resolved s args.stateid) args.seqid caller file (deed.Close args))
 unfolding close_checks seqid_owner
-close_turn s caller file args verdict = at_turn s (record { caller = caller; file = file; deed = deed.Close args }) verdict args.seqid args.stateid refl refl refl
+close_turn_of s caller file args verdict = at_turn s (record { caller = caller; file = file; deed = deed.Close args }) verdict args.seqid args.stateid refl refl refl
 
-pub confirm_turn : (s : Seen) (caller : Option Party) (file : ℕ) (args : OpenConfirmArgs) (verdict : Verdict)
+confirm_turn_of : (s : Seen) (caller : Option Party) (file : ℕ) (args : OpenConfirmArgs) (verdict : Verdict)
     → IsTurn s (record { caller = caller; file = file; deed = deed.OpenConfirm args }) verdict (turn_at s (resolved s args.stateid) args.seqid caller file (deed.OpenConfirm args))
 unfolding confirm_checks seqid_owner
-confirm_turn s caller file args verdict = at_turn s (record { caller = caller; file = file; deed = deed.OpenConfirm args }) verdict args.seqid args.stateid refl refl refl
+confirm_turn_of s caller file args verdict = at_turn s (record { caller = caller; file = file; deed = deed.OpenConfirm args }) verdict args.seqid args.stateid refl refl refl
 
-pub downgrade_turn : (s : Seen) (caller : Option Party) (file : ℕ) (args : OpenDowngradeArgs) (verdict : Verdict)
+downgrade_turn_of : (s : Seen) (caller : Option Party) (file : ℕ) (args : OpenDowngradeArgs) (verdict : Verdict)
     → IsTurn s (record { caller = caller; file = file; deed = deed.OpenDowngrade args }) verdict (turn_at s (resolved s args.stateid) args.seqid caller file (deed.OpenDowngrade args))
 unfolding downgrade_checks seqid_owner
-downgrade_turn s caller file args verdict = at_turn s (record { caller = caller; file = file; deed = deed.OpenDowngrade args }) verdict args.seqid args.stateid refl refl refl
+downgrade_turn_of s caller file args verdict = at_turn s (record { caller = caller; file = file; deed = deed.OpenDowngrade args }) verdict args.seqid args.stateid refl refl refl
 
-pub open_turn : (s : Seen) (party : Party) (file : ℕ) (args : OpenArgs) (verdict : Verdict)
+claim_stays : (claim : Claim) → StopStays (refusal (claim_unresolved claim))
+unfolding claim_unresolved advances
+claim_stays (Null _) = tt
+claim_stays (Previous _) = tt
+claim_stays (DelegateCur _ _) = refl
+claim_stays (DelegatePrev _) = tt
+
+open_turn_of : (s : Seen) (party : Party) (file : ℕ) (args : OpenArgs) (verdict : Verdict)
     → IsTurn s (record { caller = Some party; file = file; deed = deed.Open args }) verdict (turn_to_open s party file args)
 unfolding open_checks seqid_owner turn_to_open advances
-open_turn s party file args verdict = by_claim (claim_unresolved args.claim) refl (claim_stays args)
+open_turn_of s party file args verdict = by_claim (claim_unresolved args.claim) refl (claim_stays args.claim)
   where
     call : Call
     call = record { caller = Some party; file = file; deed = deed.Open args }
-
-    claim_stays : (args : OpenArgs) → StopStays (refusal (claim_unresolved args.claim))
-    claim_stays args = tt
 
     by_claim : (o : Option OpStatus) → claim_unresolved args.claim ≡ o → StopStays (refusal o)
         → IsTurn s call verdict (turn_unless (deed.Open args) o (turn_by (deed.Open args) (opener party args)
@@ -184,19 +190,61 @@ open_turn s party file args verdict = by_claim (claim_unresolved args.claim) ref
     by_claim (Some status) own stays =
         applied_before s call verdict status (first_unresolved (open_checks s (Some party) file args verdict) status own) stays
 
+-- ---- by the call as it came
+
+pub call_is : (call : Call) (d : Deed) → call.deed ≡ d → record { caller = call.caller; file = call.file; deed = d } ≡ call
+call_is call d its = λ i. record { caller = call.caller; file = call.file; deed = sym its i }
+
+pub open_is : (call : Call) (party : Party) (d : Deed) → call.caller ≡ Some party → call.deed ≡ d → record { caller = Some party; file = call.file; deed = d } ≡ call
+open_is call party d its_caller its = λ i. record { caller = sym its_caller i; file = call.file; deed = sym its i }
+
+turn_as : (s : Seen) (call other : Call) (verdict : Verdict) (o : Option OpenRow) (stateid : StateRef) (seqid : ℕ) (t its : Turn)
+    → IsTurn s other verdict (turn_at s (resolved s stateid) seqid other.caller other.file other.deed)
+    → other ≡ call → o ≡ resolved s stateid → t ≡ turn_at s o seqid call.caller call.file call.deed → t ≡ its → IsTurn s call verdict its
+turn_as s call other verdict o stateid seqid t its turn same row told is =
+    subst (λ x. IsTurn s call verdict x) (ap (λ r. turn_at s r seqid call.caller call.file call.deed) (sym row) ∙ sym told ∙ is)
+    (subst (λ q. IsTurn s q verdict (turn_at s (resolved s stateid) seqid q.caller q.file q.deed)) same turn)
+
+pub close_turn : (s : Seen) (call : Call) (args : CloseArgs) (verdict : Verdict) (o : Option OpenRow) (t its : Turn) → call.deed ≡ deed.Close args
+    → o ≡ resolved s args.stateid → t ≡ turn_at s o args.seqid call.caller call.file call.deed → t ≡ its → IsTurn s call verdict its
+close_turn s call args verdict o t its asks row told is =
+    turn_as s call _ verdict o args.stateid args.seqid t its (close_turn_of s call.caller call.file args verdict) (call_is call (deed.Close args) asks) row told is
+
+pub confirm_turn : (s : Seen) (call : Call) (args : OpenConfirmArgs) (verdict : Verdict) (o : Option OpenRow) (t its : Turn) → call.deed ≡ deed.OpenConfirm args
+    → o ≡ resolved s args.stateid → t ≡ turn_at s o args.seqid call.caller call.file call.deed → t ≡ its → IsTurn s call verdict its
+confirm_turn s call args verdict o t its asks row told is =
+    turn_as s call _ verdict o args.stateid args.seqid t its (confirm_turn_of s call.caller call.file args verdict) (call_is call (deed.OpenConfirm args) asks) row told is
+
+pub downgrade_turn : (s : Seen) (call : Call) (args : OpenDowngradeArgs) (verdict : Verdict) (o : Option OpenRow) (t its : Turn) → call.deed ≡ deed.OpenDowngrade args
+    → o ≡ resolved s args.stateid → t ≡ turn_at s o args.seqid call.caller call.file call.deed → t ≡ its → IsTurn s call verdict its
+downgrade_turn s call args verdict o t its asks row told is =
+    turn_as s call _ verdict o args.stateid args.seqid t its (downgrade_turn_of s call.caller call.file args verdict) (call_is call (deed.OpenDowngrade args) asks) row told is
+
+pub open_turn : (s : Seen) (call : Call) (party : Party) (args : OpenArgs) (verdict : Verdict) (t its : Turn) → call.caller ≡ Some party → call.deed ≡ deed.Open args
+    → t ≡ turn_to_open s party call.file args → t ≡ its → IsTurn s call verdict its
+open_turn s call party args verdict t its caller asks told is =
+    subst (λ x. IsTurn s call verdict x) (sym told ∙ is)
+    (subst (λ q. IsTurn s q verdict (turn_to_open s party call.file args)) (open_is call party (deed.Open args) caller asks) (open_turn_of s party call.file args verdict))
+
 -- an OPEN that names no caller
-pub nobody_opens : (s : Seen) (file : ℕ) (args : OpenArgs) (verdict : Verdict)
+nobody : (s : Seen) (file : ℕ) (args : OpenArgs) (verdict : Verdict)
     → Applied s (Asked (record { caller = None; file = file; deed = deed.Open args }) verdict) (reply_with StaleClientId (told.Open None)) s
 unfolding open_checks advances
-nobody_opens s file args verdict = applied_before s (record { caller = None; file = file; deed = deed.Open args }) verdict StaleClientId refl refl
+nobody s file args verdict = applied_before s (record { caller = None; file = file; deed = deed.Open args }) verdict StaleClientId refl refl
+
+pub nobody_opens : (s : Seen) (call : Call) (args : OpenArgs) (verdict : Verdict) → call.caller ≡ None → call.deed ≡ deed.Open args
+    → Applied s (Asked call verdict) (reply_with StaleClientId (told.Open None)) s
+nobody_opens s call args verdict caller asks =
+    subst (λ q. Applied s (Asked q verdict) (reply_with StaleClientId (told.Open None)) s)
+    (λ i. record { caller = sym caller i; file = call.file; deed = sym asks i }) (nobody s call.file args verdict)
 
 -- ---- it was its turn
 
-pub behind : (c : Checks) → Passes c → first c ≡ refusal (behind_seqid c)
+behind : (c : Checks) → Passes c → first c ≡ refusal (behind_seqid c)
 behind c passes = rw (passes.unresolved, passes.seqid) refl
 
 -- what is told of it is the answer
-pub told_behind : (s : Seen) (call : Call) (verdict : Verdict) (owner : Owner) (r : Reply) → IsTurn s call verdict (Of owner)
+told_behind : (s : Seen) (call : Call) (verdict : Verdict) (owner : Owner) (r : Reply) → IsTurn s call verdict (Of owner)
     → r ≡ reply_behind s call verdict → r ≡ answer_to s (Asked call verdict)
 unfolding answer_to
 told_behind s call verdict owner r turn it = it ∙ ap (reply_by s call) (sym (behind _ turn.0))
@@ -230,6 +278,32 @@ refused_words n caller file (deed.Remove _) = refl
 refused_words n caller file (deed.SetAttr _) = refl
 refused_words n caller file (deed.Write _) = refl
 
+pub nothing_left : (s : Seen) (call : Call) → s ≡ after_words s (with_owners (deed_words (look s) call.caller call.file call.deed (refused_value call.deed)) Stays)
+nothing_left s call =
+    sym (ap (λ w. after_words s (with_owners w Stays)) (refused_words (look s) call.caller call.file call.deed) ∙ same-after s)
+
+-- and closes nothing
+pub none_closed : (s : Seen) (call : Call) → None ≡ closed_by (look s) call.deed (refused_value call.deed)
+unfolding closed_by
+none_closed s call = by_deed call.deed
+  where
+    by_deed : (d : Deed) → None ≡ closed_by (look s) d (refused_value d)
+    by_deed (deed.Access _) = refl
+    by_deed (deed.Close _) = refl
+    by_deed (deed.Commit _) = refl
+    by_deed (deed.Create _) = refl
+    by_deed (deed.GetAttr _) = refl
+    by_deed (deed.Lookup _) = refl
+    by_deed deed.LookupP = refl
+    by_deed (deed.Open _) = refl
+    by_deed (deed.OpenConfirm _) = refl
+    by_deed (deed.OpenDowngrade _) = refl
+    by_deed (deed.Read _) = refl
+    by_deed (deed.ReadDir _) = refl
+    by_deed (deed.Remove _) = refl
+    by_deed (deed.SetAttr _) = refl
+    by_deed (deed.Write _) = refl
+
 either_way : {A : Type 0} (b : Bool) (x y : A) → x ≡ y → cond b x y ≡ x
 either_way true x y same = refl
 either_way false x y same = sym same
@@ -242,13 +316,14 @@ unfolding is_done
 words_behind s call None = refl
 words_behind s call (Some status) = either_way (is_done status) _ no_words (refused_words (look s) call.caller call.file call.deed)
 
-pub applied_noted : (s : Seen) (call : Call) (verdict : Verdict) (owner : Owner) (r : Reply) (closed : Option OpenRow) (mid : Seen)
+applied_noted : (s : Seen) (call : Call) (verdict : Verdict) (owner : Owner) (r : Reply) (closed : Option OpenRow) (mid : Seen)
     → IsTurn s call verdict (Of owner) → Went s call verdict r closed mid
     → Applied s (Asked call verdict) r (after_noting (note_word s owner call r closed) mid)
+unfolding words noted note_word look after_noting after_words owners_after closed_after
 applied_noted s call verdict owner r closed mid turn went = record {
   answer = told_behind s call verdict owner r turn went.answer;
   tables = ap (after_noting (note_word s owner call r closed)) went.tables
-      ∙ notes _ (note_word s owner call r closed)
+      ∙ notes done (note_word s owner call r closed)
       ∙ ap (λ o. after_words s (with_owners done (note_word s owner call r o))) went.closed
       ∙ ap (after_words s) (sym its_words);
 }
@@ -257,7 +332,6 @@ applied_noted s call verdict owner r closed mid turn went = record {
     done = deed_words (look s) call.caller call.file call.deed r.value
 
     notes : (w : Words) (word : OwnerWord) → after_noting word (after_words s (with_owners w Stays)) ≡ after_words s (with_owners w word)
-    unfolding after_noting after_words owners_after closed_after
     notes w word = refl
 
     acted : cond (is_done r.status) done no_words ≡ done
@@ -265,5 +339,18 @@ applied_noted s call verdict owner r closed mid turn went = record {
         (sym went.answer) (words_behind s call (behind_seqid (checks s call.caller call.file verdict call.deed)))
 
     its_words : words (look s) (Asked call verdict) r ≡ with_owners done (note_word s owner call r (closed_by (look s) call.deed r.value))
-    unfolding words noted note_word look
     its_words = rw (is_its_turn s call verdict turn.0, turn.1) (ap (λ w. with_owners w (note_word s owner call r (closed_by (look s) call.deed r.value))) acted)
+
+-- by the call as it came, and the owners as they were then
+pub noted_as : (s : Seen) (call other : Call) (verdict : Verdict) (owner : Owner) (r : Reply) (closed : Option OpenRow) (mid new : Seen)
+    → other ≡ call → IsTurn s call verdict (Of owner) → Went s other verdict r closed mid → new ≡ after_noting (note_word mid owner call r closed) mid
+    → Applied s (Asked call verdict) r new
+unfolding after_words owners_after note_word
+noted_as s call other verdict owner r closed mid new same turn went noted =
+    let its : Went s call verdict r closed mid = subst (λ q. Went s q verdict r closed mid) same went in
+    let kept : note_word mid owner call r closed ≡ note_word s owner call r closed = ap (λ (m : Seen). note_word m owner call r closed) its.tables in
+    subst (λ x. Applied s (Asked call verdict) r x) (sym (noted ∙ ap (λ w. after_noting w mid) kept)) (applied_noted s call verdict owner r closed mid turn its)
+
+pub told_as : (s : Seen) (call other : Call) (verdict : Verdict) (owner : Owner) (r : Reply)
+    → other ≡ call → IsTurn s call verdict (Of owner) → r ≡ reply_behind s other verdict → r ≡ answer_to s (Asked call verdict)
+told_as s call other verdict owner r same turn it = told_behind s call verdict owner r turn (it ∙ ap (λ q. reply_behind s q verdict) same)

@@ -65,10 +65,10 @@ abbrev pub reply_behind : Seen → Call → Verdict → Reply
 reply_behind s call verdict = reply_by s call (refusal (behind_seqid (checks s call.caller call.file verdict call.deed)))
 
 -- What an operation whose turn it is leaves of the files and the opens, its reply, and the open that it closed.
-pub record Went (before : Seen) (call : Call) (verdict : Verdict) (reply : Reply) (closed : Option OpenRow) (new : Seen) : Type 0 where
+pub record Went (before : Seen) (call : Call) (verdict : Verdict) (reply : Reply) (gone : Option OpenRow) (new : Seen) : Type 0 where
   pub answer : reply ≡ reply_behind before call verdict
   pub tables : new ≡ after_words before (with_owners (deed_words (look before) call.caller call.file call.deed reply.value) Stays)
-  pub closed : closed ≡ closed_by (look before) call.deed reply.value
+  pub closed : gone ≡ closed_by (look before) call.deed reply.value
 
 -- how its owner moves on
 unfoldable pub note_word : Seen → Owner → Call → Reply → Option OpenRow → OwnerWord
