@@ -7,6 +7,6 @@ mod state;
 #[cfg(test)]
 mod tests;
 
-pub use rows::seqid_after;
+pub use rows::{is_narrower, seqid_after};
 pub use shares::Shares;
 pub use state::State;

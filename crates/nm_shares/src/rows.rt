@@ -1,6 +1,7 @@
 //! Work on a list of opens.
-ghost use Rattle.std.specs.Prelude.{◌≡◌, ◌<◌, ◌^◌, ℕ, true, IfOk, OnErr, map, filter, not, ◌==◌, option_copied, is_none};
-ghost use Rattle.nm_shares.specs.Rows.{joined_at, Took};
+ghost use Rattle.std.specs.Prelude.{◌≡◌, ◌<◌, ◌^◌, ℕ, true, IfOk, IfSome, IsSome, OnErr, map, filter, not, ◌==◌, option_copied, is_none};
+ghost use Rattle.nm_shares.specs.Rows.{changed_row, changed_at, renewed_state, ChangedTo, Took};
+ghost use Rattle.nm_rules.specs.Opens.{is_share, is_within, is_narrower};
 ghost use Rattle.nm_rules.specs.Sound.{rises};
 ghost use Rattle.nm_rules.specs.Shares.{next_seqid, is_opposed, open_at, open_of, shares_conflict, opens_after};
 ghost use Rattle.nm_rules.specs.Shares.OpenWord.{DropOf};
@@ -69,23 +70,99 @@ pub fn drop_of(rows: &mut Vec<OpenRow>, instance: &Instance)
     rows.retain(|row| !instance.is_same(&row.owner.instance));
 }
 
-// Joins a share to the row, where it has that counter. The seqid of its stateid then goes on by one.
-fn join_row(row: &mut OpenRow, counter: u64, access: u32, deny: u32)
-    ensures { row.new ≡ joined_at counter access deny row.old }
+/// The state of the live open of that counter, as a call that changes it tells it.
+pub fn next_state(rows: &[OpenRow], counter: u64) -> State
+    requires live { IsSome (open_at counter rows.now) }
+    ensures { IfSome (open_at counter rows.now) (λ row. result ≡ renewed_state row) }
 {
-    if row.counter == counter {
-        row.seqid = seqid_after(row.seqid);
-        row.access |= access;
-        row.deny |= deny;
+    match find_at(rows, counter) {
+        Some(row) => State {
+            counter: row.counter,
+            seqid: seqid_after(row.seqid),
+        },
+        None => unreachable!(),
     }
 }
 
-/// Joins a share to the open of that counter, whose stateid's seqid goes on by one.
-pub fn join(rows: &mut Vec<OpenRow>, counter: u64, access: u32, deny: u32)
-    ensures { rows.new.items ≡ map (joined_at counter access deny) rows.old.items }
+/// What is done with an open whose stateid is told anew.
+#[derive(Clone, Copy)]
+pub enum Change {
+    /// A further OPEN joins its access and deny.
+    Joined { access: u32, deny: u32 },
+    /// An OPEN_CONFIRM leaves both as they are.
+    Renewed,
+    /// An OPEN_DOWNGRADE leaves that access and deny.
+    Narrowed { access: u32, deny: u32 },
+}
+
+fn change_row(row: &mut OpenRow, change: Change)
+    ensures { row.new ≡ changed_row change row.old }
+{
+    row.seqid = seqid_after(row.seqid);
+    match change {
+        Change::Joined { access, deny } => {
+            row.access |= access;
+            row.deny |= deny;
+        }
+        Change::Renewed => {}
+        Change::Narrowed { access, deny } => {
+            row.access = access;
+            row.deny = deny;
+        }
+    }
+}
+
+// Changes the row, where it has that counter.
+fn change_at(row: &mut OpenRow, counter: u64, change: Change)
+    ensures { row.new ≡ changed_at counter change row.old }
+{
+    if row.counter == counter {
+        change_row(row, change);
+    }
+}
+
+// Changes each row of that counter.
+fn change_each(rows: &mut Vec<OpenRow>, counter: u64, change: Change)
+    ensures { rows.new.items ≡ map (changed_at counter change) rows.old.items }
 {
     for row in rows.iter_mut() {
-        join_row(row, counter, access, deny);
+        change_at(row, counter, change);
+    }
+}
+
+/// Changes the open of that counter, whose stateid's seqid goes on by one.
+pub fn renew(rows: &mut Vec<OpenRow>, counter: u64, change: Change)
+    ensures { (last : ℕ) → rises 0 last rows.old.items ≡ true → ChangedTo counter change last rows.old.items rows.new.items }
+{
+    change_each(rows, counter, change);
+}
+
+/// Access is 1 to 3, and deny 0 to 3.
+#[tactic(auto, unfolding(nm_rules::specs::Opens::is_share))]
+pub fn is_share(access: u32, deny: u32) -> bool
+    ensures { result ≡ is_share access deny }
+{
+    1 <= access && access <= 3 && deny <= 3
+}
+
+// All that the one has, the other has too.
+fn is_within(part: u32, whole: u32) -> bool
+    ensures { result ≡ is_within part whole }
+{
+    part | whole == whole
+}
+
+/// Whether an OPEN_DOWNGRADE of an open may ask for that access and deny (RFC 7530, 16.19): access is 1 to 3 and deny 0 to
+/// 3, and those of a live open are at most what it has.
+#[tactic(auto, unfolding(nm_rules::specs::Opens::is_narrower))]
+pub fn is_narrower(access: u32, deny: u32, row: Option<&OpenRow>) -> bool
+    ensures { result ≡ is_narrower access deny (option_copied row.entry) }
+{
+    match row {
+        Some(row) => {
+            is_share(access, deny) && is_within(access, row.access) && is_within(deny, row.deny)
+        }
+        None => is_share(access, deny),
     }
 }
 
@@ -107,7 +184,7 @@ pub fn take(
         Some(row) => {
             let counter = row.counter;
             let seqid = seqid_after(row.seqid);
-            join(rows, counter, access, deny);
+            renew(rows, counter, Change::Joined { access, deny });
             Ok((State { counter, seqid }, last))
         }
         None => {

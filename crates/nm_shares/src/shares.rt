@@ -1,12 +1,15 @@
 //! The opens of one file system.
-ghost use Rattle.std.specs.Prelude.{◌≡◌, ◌<◌, ◌^◌, ◌↔◌, ℕ, true, IsSome, IfSome, IfOk, OnOk, OnErr, is_none, option_copied};
+ghost use Rattle.std.specs.Prelude.{◌≡◌, ◌<◌, ◌+◌, ◌^◌, ◌↔◌, ℕ, true, IsSome, IfSome, IfOk, OnOk, OnErr, is_none, option_copied};
 ghost use Rattle.nm_rules.specs.Shares.{open_at, open_of, is_opposed};
 ghost use Rattle.nm_rules.specs.Opens.{is_share};
 ghost use Rattle.nm_rules.specs.Sound.{rises};
-ghost use Rattle.nm_shares.specs.Rows.{no_opens, Tells, take_answer, after_take, after_close, after_end, closed_state};
+ghost use Rattle.nm_shares.specs.Rows.{no_opens, Tells, take_answer, after_take, after_close, after_end, after_confirm, after_downgrade, after_draw, downgrade_answer, renewed_state};
 
 use crate::State;
-use crate::rows::{copy_rows, drop_at, drop_of, find_at, find_of, opposed, seqid_after, take};
+use crate::rows::{
+    Change, copy_rows, drop_at, drop_of, find_at, find_of, is_narrower, next_state, opposed, renew,
+    take,
+};
 use nm_rules::{FsNum, Instance, Memory, OpStatus, OpenRow, Owner, Refusal};
 use std::alloc::Global;
 use std::marker::Model;
@@ -113,18 +116,51 @@ impl Shares {
     #[tactic(auto, unfolding(nm_rules::specs::Shares::opens_after))]
     pub fn close(&mut self, counter: u64) -> State
         requires live { IsSome (open_at counter self.old.table) }
-        ensures state { IfSome (open_at counter self.old.table) (λ row. result ≡ closed_state row) }
+        ensures state { IfSome (open_at counter self.old.table) (λ row. result ≡ renewed_state row) }
         ensures closed { self.new ≡ after_close self.old counter }
     {
-        let state = match find_at(&self.rows, counter) {
-            Some(row) => State {
-                counter: row.counter,
-                seqid: seqid_after(row.seqid),
-            },
-            None => unreachable!(),
-        };
+        let state = next_state(&self.rows, counter);
         drop_at(&mut self.rows, counter);
         state
+    }
+
+    /// Confirms the live open of that counter (RFC 7530, 16.18): the seqid of its stateid goes on by one.
+    pub fn confirm(&mut self, counter: u64) -> State
+        requires live { IsSome (open_at counter self.old.table) }
+        ensures state { IfSome (open_at counter self.old.table) (λ row. result ≡ renewed_state row) }
+        ensures confirmed { self.new ≡ after_confirm self.old counter }
+    {
+        let state = next_state(&self.rows, counter);
+        renew(&mut self.rows, counter, Change::Renewed);
+        state
+    }
+
+    /// Leaves the live open of that counter this access and deny (RFC 7530, 16.19). `INVAL` exactly where they are none of an
+    /// open, or more than it has. After an error nothing has changed.
+    #[tactic(auto, unfolding(crate::specs::Rows::downgrade_answer))]
+    pub fn downgrade(&mut self, counter: u64, access: u32, deny: u32) -> Result<State, OpStatus>
+        requires live { IsSome (open_at counter self.old.table) }
+        ensures answer { IfSome (open_at counter self.old.table) (λ row. result ≡ downgrade_answer row access deny) }
+        ensures ok { OnOk result (self.new ≡ after_downgrade self.old counter access deny) }
+        ensures err { OnErr result (self.new ≡ self.old) }
+    {
+        if !is_narrower(access, deny, find_at(&self.rows, counter)) {
+            return Err(OpStatus::Inval);
+        }
+        let state = next_state(&self.rows, counter);
+        renew(&mut self.rows, counter, Change::Narrowed { access, deny });
+        Ok(state)
+    }
+
+    /// The counter of a further stateid, which counts as made. The last one must be below 2^63.
+    #[tactic(auto, using(crate::proofs::RowLemmas::rises_further))]
+    pub fn draw(&mut self) -> u64
+        requires room { self.old.last < 2 ^ 63 }
+        ensures counter { result ≡ self.old.last + 1 }
+        ensures drawn { self.new ≡ after_draw self.old }
+    {
+        self.last += 1;
+        self.last
     }
 
     /// Closes all opens of an instance, which has ended (RFC 7530, 9.6.3).

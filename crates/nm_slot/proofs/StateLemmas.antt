@@ -15,7 +15,7 @@ use Rattle.nm_slot.specs.declared.stage.Doing.TheVariants as kept_doing
 use Rattle.nm_slot.specs.declared.stage.Stage.{Stage as KeptStage}
 use Rattle.nm_slot.specs.SlotNow.{Stage, Own, SlotNow, phase_of}
 use Rattle.nm_slot.specs.SlotNow.Stage.{Away, Here}
-use Rattle.nm_slot.specs.Kept.{IsKept, Goes, IsReplyAt, MayBegin, IsKeptOrSpent, Took, TookIt, took_by, held_of, rows_of, IsReady, IsStaged, IsNumbered}
+use Rattle.nm_slot.specs.Kept.{IsKept, Goes, IsReplyAt, MayBegin, IsKeptOrSpent, Took, TookIt, took_by, held_of, rows_in, rows_of, IsReady, IsStaged, IsNumbered}
 use Rattle.nm_slot.specs.declared.stage.Doing.{Doing as KeptDoing}
 use Rattle.nm_slot.specs.declared.stage.Stage.TheVariants as kept_stage
 use Rattle.nm_state.specs.State.{StateNow, Applies}
@@ -25,9 +25,9 @@ fs_after : (s : Seen) (event : Event) (reply : Reply) → (after s event reply).
 unfolding after_words
 fs_after s event reply = refl
 
--- A state stays of its file system, and with room for one holder more there is room after the next entry.
+-- A state stays of its file system, and with room for two holders more there is room after the next entry.
 pub ready_after : (fs before room : ℕ) (s : Seen) (event : Event) (reply : Reply) (first later : Bool)
-    → IsReady fs before (record { seen = s; spent = first }) → length s.opens + 1 ≤ room
+    → IsReady fs before (record { seen = s; spent = first }) → rows_in s + 2 ≤ room
     → IsReady fs room (record { seen = after s event reply; spent = later })
 ready_after fs before room s event reply first later ready more = record {
   fs = fs_after s event reply ∙ ready.fs;
@@ -41,7 +41,7 @@ staged_turned fs room epoch doing next state staged numbered = record { facts = 
 
 -- a state after an entry
 pub staged_after : (fs before room epoch : ℕ) (doing : KeptDoing) (old new : StateNow) (event : Event) (reply : Reply)
-    → IsStaged fs before epoch (kept_stage.Here doing old) → length old.seen.opens + 1 ≤ room → old.spent ≡ false
+    → IsStaged fs before epoch (kept_stage.Here doing old) → rows_in old.seen + 2 ≤ room → old.spent ≡ false
     → new ≡ record { seen = after old.seen event reply; spent = false }
     → IsStaged fs room epoch (kept_stage.Here doing new)
 staged_after fs before room epoch doing old new event reply staged more unspent it = record {
@@ -50,10 +50,10 @@ staged_after fs before room epoch doing old new event reply staged more unspent 
 
 pub stage_applied : (stage : KeptStage) (doing : KeptDoing) (old new : StateNow) (event : Event) (reply : Reply)
     → stage ≡ kept_stage.Here doing old → Applies old event (Ok reply) new → (fs before room epoch : ℕ)
-    → IsStaged fs before epoch stage → rows_of stage + 1 ≤ room → IsStaged fs room epoch (kept_stage.Here doing new)
+    → IsStaged fs before epoch stage → rows_of stage + 2 ≤ room → IsStaged fs room epoch (kept_stage.Here doing new)
 stage_applied stage doing old new event reply it applies fs before room epoch staged more =
     staged_after fs before room epoch doing old new event reply (subst (λ s. IsStaged fs before epoch s) it staged)
-    (subst (λ s. rows_of s + 1 ≤ room) it more) applies.0 applies.2
+    (subst (λ s. rows_of s + 2 ≤ room) it more) applies.0 applies.2
 
 -- a state that is spent
 pub staged_spent : (fs before room epoch : ℕ) (doing : KeptDoing) (old new : StateNow)

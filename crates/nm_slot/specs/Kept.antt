@@ -3,6 +3,7 @@ use Rattle.std.specs.Prelude.{◌≡◌, ◌≤◌, ◌<◌, ◌^◌, ◌+◌, �
 use Rattle.nm_rules.specs.Parties.{Party}
 use Rattle.nm_rules.specs.Answer.{answer_to}
 use Rattle.nm_rules.specs.Holders.{holders}
+use Rattle.nm_rules.specs.Seen.{Seen}
 use Rattle.nm_rules.specs.declared.calls.Call.{Call}
 use Rattle.nm_rules.specs.declared.calls.Event.{Event}
 use Rattle.nm_rules.specs.declared.calls.Event.TheVariants.{Asked}
@@ -45,16 +46,20 @@ abbrev pub spent_of : KeptStage → Bool
 spent_of (kept_stage.Away held) = false
 spent_of (kept_stage.Here doing state) = state.spent
 
+-- opens and owners: there are no more holders than these
+abbrev pub rows_in : Seen → ℕ
+rows_in s = length s.opens + length s.owners
+
 -- A state that isn't spent is that of the file system, and so many holders have room.
 pub record IsReady (its_fs its_room : ℕ) (state : StateNow) : Type 0 where
   pub fs : state.seen.fs ≡ its_fs
-  pub room : length state.seen.opens ≤ its_room
+  pub room : rows_in state.seen ≤ its_room
 
 -- A held offer may be offered here, isn't spent, and its holders have room.
 pub record IsHeldWell (fs its_room : ℕ) (image : Image) : Type 0 where
   pub offered : MayBeOffered fs image
   pub unspent : image.state.spent ≡ false
-  pub room : length image.state.seen.opens ≤ its_room
+  pub room : rows_in image.state.seen ≤ its_room
 
 abbrev pub AreHeldWell : (fs its_room : ℕ) → Option Image → Type 0
 AreHeldWell fs its_room None = Unit {0}
@@ -127,7 +132,7 @@ first_slot fs serving = record {
 
 abbrev pub rows_of : KeptStage → ℕ
 rows_of (kept_stage.Away held) = 0
-rows_of (kept_stage.Here doing state) = length state.seen.opens
+rows_of (kept_stage.Here doing state) = rows_in state.seen
 
 abbrev pub is_here : KeptStage → Bool
 is_here (kept_stage.Away held) = false

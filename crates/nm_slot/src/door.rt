@@ -33,13 +33,13 @@ fn turn_away(held: &Option<Image>, left: Option<Left>) -> Enter
     }
 }
 
-// Makes room for one more than there are rows.
-fn reserve_one_more(room: &mut Vec<Instance>, rows: usize) -> Result<(), Memory>
-    ensures ok { OnOk result (rows + 1 ≤ vec_capacity room.new) }
+// Makes room for two more than there are rows: an event adds at most an open and an owner.
+fn reserve_two_more(room: &mut Vec<Instance>, rows: usize) -> Result<(), Memory>
+    ensures ok { OnOk result (rows + 2 ≤ vec_capacity room.new) }
     ensures items { room.new.items ≡ room.old.items }
     ensures err { OnErr result (vec_capacity room.new ≡ vec_capacity room.old) }
 {
-    let needed = rows.checked_add(1).ok_or(Memory)?;
+    let needed = rows.checked_add(2).ok_or(Memory)?;
     Ok(room.reserve(needed)?)
 }
 
@@ -136,7 +136,7 @@ impl Slot {
         ensures err { OnErr result (IsKeptOrSpent self.old self.new) }
     {
         let event = Event::Asked(call.copy()?, verdict);
-        reserve_one_more(&mut self.room, self.stage.rows())?;
+        reserve_two_more(&mut self.room, self.stage.rows())?;
         match self.stage.apply(&event) {
             Ok(reply) => {
                 self.count += 1;

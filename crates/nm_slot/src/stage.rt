@@ -234,7 +234,7 @@ impl Stage {
         ensures err { OnErr result (spent_of self.new ≡ true) }
         ensures held { held_of self.new ≡ held_of self.old }
         ensures phase { (own : Own) → phase_at (stage_of self.new) own ≡ phase_at (stage_of self.old) own }
-        ensures kept { (fs before room epoch : ℕ) → IsStaged fs before epoch self.old → rows_of self.old + 1 ≤ room → IsStaged fs room epoch self.new }
+        ensures kept { (fs before room epoch : ℕ) → IsStaged fs before epoch self.old → rows_of self.old + 2 ≤ room → IsStaged fs room epoch self.new }
     {
         match self {
             Stage::Away(_) => unreachable!(),

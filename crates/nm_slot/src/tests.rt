@@ -369,10 +369,10 @@ fn client(id: &[u8]) -> Result<Instance, Fail> {
     )
 }
 
-// An OPEN of the file `f` for reading, which makes it.
-fn open(alloc: Global, caller: Instance) -> Result<Call, Memory> {
+// An OPEN of the file `f` for reading, which makes it, by the client's owner with that seqid.
+fn open(alloc: Global, caller: Instance, seqid: u32) -> Result<Call, Memory> {
     let args = OpenArgs {
-        seqid: 1,
+        seqid,
         access: 1,
         deny: 0,
         owner: Bytes::from_slice(alloc, b"o")?,
@@ -425,24 +425,27 @@ fn pass(epoch: u64) -> Result<FsPass, Fail> {
 fn calls_are_made_until_the_freeze(rt: HostRuntime) -> Result<(), Fail> {
     let alloc = rt.alloc();
     let (here, dest, pass) = (server(0)?, server(1)?, pass(0)?);
-    let asked = open(alloc, client(b"A")?)?;
+    let (first, second) = (
+        open(alloc, client(b"A")?, 1)?,
+        open(alloc, client(b"A")?, 2)?,
+    );
     let mut slot = slot_in(&rt, alloc, Made::Serving)?;
-    assert_eq!(rt; call(&mut slot, &pass, &asked), done(1));
+    assert_eq!(rt; call(&mut slot, &pass, &first), done(1));
     assert_eq!(rt; slot.begin(here, dest), Begin::Begun(MoveNum::new(1)));
-    assert_eq!(rt; call(&mut slot, &pass, &asked), done(2));
+    assert_eq!(rt; call(&mut slot, &pass, &second), done(2));
     assert_eq!(rt; slot.freeze(), Freeze::Frozen(MoveNum::new(1)));
-    assert_eq!(rt; call(&mut slot, &pass, &asked), Ok(Called::Strayed(0, 0)));
+    assert_eq!(rt; call(&mut slot, &pass, &second), Ok(Called::Strayed(0, 0)));
     Ok(())
 }
 
-// Opens `f` for a client.
+// Opens `f` for a client, the first time.
 fn open_by(
     alloc: Global,
     slot: &mut Slot,
     pass: &FsPass,
     caller: Instance,
 ) -> Result<Called, Memory> {
-    let asked = open(alloc, caller)?;
+    let asked = open(alloc, caller, 1)?;
     call(slot, pass, &asked)
 }
 
@@ -511,7 +514,7 @@ fn an_offer_is_installed_once(rt: HostRuntime) -> Result<(), Fail> {
 fn the_state_goes_on_at_the_destination(rt: HostRuntime) -> Result<(), Fail> {
     let alloc = rt.alloc();
     let (old, new) = (pass(0)?, pass(1)?);
-    let asked = open(alloc, client(b"A")?)?;
+    let asked = open(alloc, client(b"A")?, 2)?;
     let mut slot = offered(&rt, alloc)?;
     assert_eq!(rt; slot.install(MoveNum::new(1)), Install::Now);
     assert_eq!(rt; (slot.epoch().number(), slot.count()), (1, 2));
@@ -595,7 +598,7 @@ fn the_last_entry_leaves_room_for_ends(rt: HostRuntime) -> Result<(), Fail> {
     let alloc = rt.alloc();
     let few = END - (1 << 17);
     let pass = pass(1)?;
-    let asked = open(alloc, client(b"A")?)?;
+    let asked = open(alloc, client(b"A")?, 1)?;
     let mut slot = moved_here(&rt, alloc, 1, 1, few - 1)?;
     assert_eq!(rt; call(&mut slot, &pass, &asked), done(few));
     assert_eq!(rt; call(&mut slot, &pass, &asked), Ok(Called::Last(few)));

@@ -6,9 +6,10 @@ use Rattle.nm_shares.proofs.rows.take.Goals as goal
 
 pub returns-in-Some-clause-ok : goal.returns-in-Some-clause-ok
 returns-in-Some-clause-ok c =
-    rw (c.join.ensures, c.seqid_after-seqid.ensures)
-    (took_joined c.args.last c.args.rows.now.items c.args.owner.now c.args.file c.args.access c.args.deny c.in-Some.row.now c.requires.rising
-    (ap (open_of c.args.owner.now c.args.file) (sym c.deref.ensures.value) ∙ sym c.in-Some.ensures))
+    rw c.seqid_after-seqid.ensures
+    (took_joined c.args.last c.args.rows.now.items c.args.owner.now c.args.file c.args.access c.args.deny c.in-Some.row.now _ c.requires.rising
+    (ap (open_of c.args.owner.now c.args.file) (sym c.deref.ensures.value) ∙ sym c.in-Some.ensures)
+    (c.renew.ensures c.args.last c.requires.rising))
 
 pub returns-in_ok-push-in-None-clause-ok : goal.returns-in_ok-push-in-None-clause-ok
 returns-in_ok-push-in-None-clause-ok c =

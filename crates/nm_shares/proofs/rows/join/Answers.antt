@@ -1,9 +1,0 @@
-use Rattle.std.proofs.lemmas.List.Edits.{map_over_more}
-use Rattle.nm_shares.specs.Rows.{joined_at}
-use Rattle.nm_shares.proofs.rows.join.Goals as goal
-
-pub loop-row-preserved : goal.loop-row-preserved
-loop-row-preserved c =
-    rw (c.join_row.ensures, ← c.row-item.is)
-    (map_over_more (joined_at c.args.counter c.args.access c.args.deny) c.deref_mut-row-items.result.now c.loop-row.row-items c.loop-row.row-index c.row-item.result
-    c.loop-row-test.true c.loop-row.invariant c.row-item.is)
