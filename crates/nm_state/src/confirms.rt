@@ -111,7 +111,7 @@ impl Tables {
         requires { IsSome (open_at counter self.old.opens) }
         ensures { self.new ≡ after_opens (put_if (option_map renewed_row (open_at counter self.old.opens))) self.old }
     {
-        let _ = counter;
+        self.shares.confirm(counter);
     }
 
     // Leaves a live open less.
@@ -121,7 +121,11 @@ impl Tables {
         requires narrower { is_narrower access deny (open_at counter self.old.opens) ≡ true }
         ensures { self.new ≡ after_opens (put_if (option_map (narrowed_row access deny) (open_at counter self.old.opens))) self.old }
     {
-        let _ = (counter, access, deny);
+        match self.shares.downgrade(counter, access, deny) {
+            Ok(_) => {}
+            // It has all of it.
+            Err(_) => unreachable!(),
+        }
     }
 
     // What an OPEN_CONFIRM whose turn it is does.
