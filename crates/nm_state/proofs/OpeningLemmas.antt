@@ -38,6 +38,7 @@ use Rattle.nm_rules.specs.declared.rows.OpenRow.{OpenRow}
 use Rattle.nm_rules.proofs.Legal.{words-refused, sound-after}
 use Rattle.nm_rules.proofs.OwnerLaws.{same-after}
 use Rattle.nm_shares.specs.Rows.{row_to_take, last_after}
+use Rattle.nm_state.specs.State.{StateNow, ended}
 use Rattle.nm_state.specs.Opening.{open_word, after_word, after_taking, after_open, after_end, Applied, HasRoom}
 
 -- what a call is answered, by what stops it
@@ -167,6 +168,21 @@ empty_sound fs grants = record { rising = refl; apart = refl; numbers = refl }
 pub applied_sound : (before : Seen) (event : Event) (reply : Reply) (new : Seen) → IsSound before → Applied before event reply new → IsSound new
 applied_sound before event reply new sound applied =
     rw (applied.tables, applied.answer) (sound-after before event sound)
+
+-- its end by itself
+ends : (s : Seen) (party : Party) (new : Seen) → new ≡ after_end s party → new ≡ after s (Ended party) (answer_to s (Ended party))
+ends s party new it =
+    let applied : Applied s (Ended party) (reply_with Nfs4Ok told.Nothing) (after_end s party) = applied_end s party in
+    it ∙ applied.tables ∙ ap (after s (Ended party)) applied.answer
+
+pub ended_is : (before : Seen) (spent : Bool) (now : StateNow) (party : Party) (new : Seen) → record { seen = before; spent = spent } ≡ now → new ≡ after_end before party
+    → record { seen = new; spent = spent } ≡ ended now party
+ended_is before spent now party new is it =
+    subst (λ (n : StateNow). record { seen = new; spent = spent } ≡ ended n party) is (ap (λ (s : Seen). record { seen = s; spent = spent }) (ends before party new it))
+
+pub ends_sound : (s : Seen) (party : Party) (new : Seen) → IsSound s → new ≡ after_end s party → IsSound new
+ends_sound s party new sound it =
+    subst (λ x. IsSound x) (sym it) (applied_sound s (Ended party) (reply_with Nfs4Ok told.Nothing) (after_end s party) sound (applied_end s party))
 
 -- ---- what an OPEN that nothing stops needs
 

@@ -226,6 +226,18 @@ open_turn s call party args verdict t its caller asks told is =
     subst (λ x. IsTurn s call verdict x) (sym told ∙ is)
     (subst (λ q. IsTurn s q verdict (turn_to_open s party call.file args)) (open_is call party (deed.Open args) caller asks) (open_turn_of s party call.file args verdict))
 
+-- the owner is the one that opens
+pub open_its : (s : Seen) (call : Call) (party : Party) (args : OpenArgs) (verdict : Verdict) (o owner : Owner) → call.caller ≡ Some party → call.deed ≡ deed.Open args
+    → owner ≡ opener party args → IsTurn s call verdict (Of o) → IsTurn s call verdict (Of owner)
+unfolding seqid_owner
+open_its s call party args verdict o owner caller asks its turn =
+    (turn.0, ap (λ q. seqid_owner (look s) q.caller q.deed) (sym (open_is call party (deed.Open args) caller asks)) ∙ ap Some (sym its))
+
+pub open_let_pass : (s : Seen) (call : Call) (party : Party) (args : OpenArgs) (verdict : Verdict) (o : Owner) → call.caller ≡ Some party → call.deed ≡ deed.Open args
+    → IsTurn s call verdict (Of o) → Passes (open_checks s (Some party) call.file args verdict)
+open_let_pass s call party args verdict o caller asks turn =
+    subst (λ q. Passes (checks s q.caller q.file verdict q.deed)) (sym (open_is call party (deed.Open args) caller asks)) turn.0
+
 -- an OPEN that names no caller
 nobody : (s : Seen) (file : ℕ) (args : OpenArgs) (verdict : Verdict)
     → Applied s (Asked (record { caller = None; file = file; deed = deed.Open args }) verdict) (reply_with StaleClientId (told.Open None)) s

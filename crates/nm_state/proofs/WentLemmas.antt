@@ -1,6 +1,6 @@
 -- What operations on opens do whose turn it is.
-use Rattle.std.proofs.Common.{◌≡◌, ℕ, ◌+◌, Bool, true, false, cond, Option, Some, None, refl, ap, sym, subst, ◌∙◌}
-use Rattle.std.specs.Prelude.{IsSome, option_map}
+use Rattle.std.proofs.Common.{◌≡◌, ℕ, ◌+◌, Bool, true, false, cond, Option, Some, None, Result, Ok, Err, refl, ap, sym, subst, ◌∙◌}
+use Rattle.std.specs.Prelude.{IfSome, IsSome, option_map}
 use Rattle.std.proofs.lemmas.Bool.{not-false}
 use Rattle.nm_rules.specs.Answer.{checks, refused_value, reply_by, reply_with}
 use Rattle.nm_rules.specs.Checks.{Checks, Stop, behind_seqid, first, refusal}
@@ -32,7 +32,8 @@ use Rattle.nm_rules.specs.declared.status.OpStatus.{OpStatus}
 use Rattle.nm_rules.specs.declared.status.OpStatus.TheVariants.{Inval, Nfs4Ok}
 use Rattle.nm_rules.proofs.Classes.{or_none, refuse_if-none}
 use Rattle.nm_rules.proofs.Legal.{claimed_is_target, drew_new, named_is_live, same_row}
-use Rattle.nm_shares.specs.Rows.{last_after, row_to_take}
+use Rattle.nm_shares.specs.Rows.{downgrade_answer, last_after, renewed_state, row_to_take}
+use Rattle.nm_shares.specs.declared.state.State.{State}
 use Rattle.nm_state.specs.Opening.{after_open, after_opens, after_taking, after_word, open_word}
 use Rattle.nm_state.specs.Turns.{Went, reply_behind}
 use Rattle.nm_state.proofs.TurnLemmas.{nothing_left, none_closed}
@@ -72,12 +73,18 @@ leaves_open s party file args rising =
     }
 
 
+pub told_open : (s : Seen) (party : Party) (file : ℕ) (args : OpenArgs) (verdict : Verdict) (opened : Opened)
+    → None ≡ behind_seqid (open_checks s (Some party) file args verdict) → Some opened ≡ open_value s (Some party) file args
+    → reply_with Nfs4Ok (told.Open (Some opened)) ≡ reply_behind s (record { caller = Some party; file = file; deed = deed.Open args }) verdict
+told_open s party file args verdict opened goes value =
+    ap (λ v. reply_with Nfs4Ok (told.Open v)) value ∙ ap (λ x. reply_by s (record { caller = Some party; file = file; deed = deed.Open args }) (refusal x)) goes
+
 pub went_open : (s : Seen) (party : Party) (file : ℕ) (args : OpenArgs) (verdict : Verdict) (opened : Opened) → rises 0 s.last s.opens ≡ true
     → None ≡ behind_seqid (open_checks s (Some party) file args verdict) → Some opened ≡ open_value s (Some party) file args
     → Went s (record { caller = Some party; file = file; deed = deed.Open args }) verdict (reply_with Nfs4Ok (told.Open (Some opened))) None (after_open s party file args)
 unfolding closed_by
 went_open s party file args verdict opened rising goes value = record {
-  answer = ap (λ v. reply_with Nfs4Ok (told.Open v)) value ∙ ap (λ x. reply_by s (record { caller = Some party; file = file; deed = deed.Open args }) (refusal x)) goes;
+  answer = told_open s party file args verdict opened goes value;
   tables = leaves_open s party file args rising ∙ ap (λ v. after_words s (with_owners (deed_words (look s) (Some party) file (deed.Open args) (told.Open v)) Stays)) (sym value);
   closed = refl;
 }
@@ -148,6 +155,17 @@ downgrade_narrows s caller file args verdict id goes value =
     ap (is_narrower args.access args.deny) (sym (changed_row s args.stateid id value))
     ∙ not-false (is_narrower args.access args.deny (open_named s args.stateid))
     (refuse_if-none _ Inval (free_behind (downgrade_checks s caller file args verdict) goes).arguments)
+
+-- so that it isn't refused for that
+pub none_narrower : (o : Option OpenRow) (access deny : ℕ) (r : Result State OpStatus) (status : OpStatus) → IsSome o → is_narrower access deny o ≡ true
+    → IfSome o (λ row. r ≡ downgrade_answer row access deny) → r ≡ Err status → ⊥
+unfolding downgrade_answer
+none_narrower None access deny r status live narrower answers refused = cc
+none_narrower (Some row) access deny r status live narrower answers refused = by_test (is_narrower access deny (Some row)) narrower answers
+  where
+    by_test : (b : Bool) → b ≡ true → r ≡ cond b (Ok (renewed_state row)) (Err Inval) → ⊥
+    by_test true h its = cc
+    by_test false h its = cc
 
 -- what is told
 pub told_close : (s : Seen) (caller : Option Party) (file : ℕ) (args : CloseArgs) (verdict : Verdict) (id : StateId)

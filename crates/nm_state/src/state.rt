@@ -165,7 +165,6 @@ impl FsState {
     }
 
     /// Carries out the end of an instance: it takes no memory, and is there for a spent state too.
-    #[tactic(auto, unfolding(nm_rules::specs::Answer::answer_to))]
     pub fn end(&mut self, instance: &Instance)
         ensures { self.new ≡ ended self.old instance.now }
     {

@@ -168,7 +168,7 @@ impl Tables {
     }
 
     /// All that an instance holds goes, and all that is kept of its owners.
-    #[tactic(auto, unfolding(crate::specs::Opening::after_end))]
+    #[tactic(auto, unfolding(crate::specs::Opening::after_end, nm_rules::specs::Seqids::owners_after, nm_rules::specs::Seqids::closed_after))]
     pub fn end(&mut self, instance: &Instance)
         ensures { self.new ≡ after_end self.old instance.now }
     {

@@ -4,10 +4,10 @@ use Rattle.nm_state.proofs.tables.Tables.confirm_answer.Goals as goal
 
 pub returns-in-Answered : goal.returns-in-Answered
 returns-in-Answered c =
-    (confirm_turn c.args.self.now c.args.call.now c.args.args.now c.args.verdict _ _ _ c.requires c.resolved.ensures c.in_ok-turn_at.ensures c.in-Answered.is).answer
+    (confirm_turn c.args.self.now c.args.call.now c.args.args.now c.args.verdict _ _ _ c.requires c.resolved.ensures c.in_ok-reply.ensures c.in-Answered.is).answer
 
-pub returns-in-Of : goal.returns-in-Of
-returns-in-Of c =
+pub returns : goal.returns
+returns c =
     told_as c.args.self.now c.args.call.now _ c.args.verdict _ _ (call_is c.args.call.now (OpenConfirm c.args.args.now) c.requires)
-    (confirm_turn c.args.self.now c.args.call.now c.args.args.now c.args.verdict _ _ _ c.requires c.resolved.ensures c.in_ok-turn_at.ensures c.in-Of.is)
+    (confirm_turn c.args.self.now c.args.call.now c.args.args.now c.args.verdict _ _ _ c.requires c.resolved.ensures c.in_ok-reply.ensures c.in-Of.is)
     c.confirm_reply.ensures

@@ -11,13 +11,13 @@ returns-in-Some c =
 pub changed_stateid-id-requires : goal.changed_stateid-id-requires
 changed_stateid-id-requires c = downgrade_names c.args.self.now c.args.call.now.caller c.args.call.now.file c.args.args.now c.args.verdict c.in_default.ensures
 
-pub narrow_open-requires-live : goal.narrow_open-requires-live
-narrow_open-requires-live c =
+pub narrow_open-requires-clause-live : goal.narrow_open-requires-clause-live
+narrow_open-requires-clause-live c =
     changed_live c.args.self.now c.args.args.now.stateid c.changed_stateid-id.result
     (downgrade_names c.args.self.now c.args.call.now.caller c.args.call.now.file c.args.args.now c.args.verdict c.in_default.ensures) c.changed_stateid-id.ensures
 
-pub narrow_open-requires-narrower : goal.narrow_open-requires-narrower
-narrow_open-requires-narrower c =
+pub narrow_open-requires-clause-narrower : goal.narrow_open-requires-clause-narrower
+narrow_open-requires-clause-narrower c =
     downgrade_narrows c.args.self.now c.args.call.now.caller c.args.call.now.file c.args.args.now c.args.verdict c.changed_stateid-id.result
     c.in_default.ensures c.changed_stateid-id.ensures
 
