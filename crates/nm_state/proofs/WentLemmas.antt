@@ -72,7 +72,6 @@ leaves_open s party file args rising =
       last = cond (drew i) (s.last + 1) s.last;
     }
 
-
 pub told_open : (s : Seen) (party : Party) (file : ℕ) (args : OpenArgs) (verdict : Verdict) (opened : Opened)
     → None ≡ behind_seqid (open_checks s (Some party) file args verdict) → Some opened ≡ open_value s (Some party) file args
     → reply_with Nfs4Ok (told.Open (Some opened)) ≡ reply_behind s (record { caller = Some party; file = file; deed = deed.Open args }) verdict

@@ -16,9 +16,7 @@ ghost use Rattle.nm_state.specs.Turns.{Passes, Went, reply_behind};
 
 use crate::attributes::set_words;
 use crate::checks::{LAST, is_dir, lease_refusal, refuse_if};
-use crate::claims::{
-    cuts, name_of, name_refusal, open_fault, opentype_asks, owner_of, touches,
-};
+use crate::claims::{cuts, name_of, name_refusal, open_fault, opentype_asks, owner_of, touches};
 use crate::closed::count_others;
 use crate::seqids::{ROWS_LIMIT, Turn};
 use crate::tables::Tables;
@@ -385,12 +383,7 @@ impl Tables {
     }
 
     /// Answers an OPEN, and carries it out where nothing stops it.
-    pub fn open(
-        &mut self,
-        call: &Call,
-        args: &OpenArgs,
-        verdict: Verdict,
-    ) -> Result<Reply, Memory>
+    pub fn open(&mut self, call: &Call, args: &OpenArgs, verdict: Verdict) -> Result<Reply, Memory>
         requires { call.now.deed ≡ OpenDeed args.now }
         ensures { IfOk result (λ r. Applied self.old (AskedEvent call.now verdict) r self.new) }
     {

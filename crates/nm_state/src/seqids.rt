@@ -137,7 +137,10 @@ impl Tables {
     {
         let owners = self.owners.rows().len();
         let opens = self.shares.rows().len();
-        ROWS_LIMIT <= owners.saturating_add(opens).saturating_add(self.closed.len())
+        ROWS_LIMIT
+            <= owners
+                .saturating_add(opens)
+                .saturating_add(self.closed.len())
     }
 
     /// Whether it is the turn of an OPEN.
@@ -171,8 +174,7 @@ impl Tables {
     ) -> Result<(), Memory>
         ensures { OnOk result (self.new ≡ after_noting (Noted (noted_row (owner_at owner.now self.old.owners) owner.now (seqid_of call.now.deed) call.now reply.now) closed) self.old) }
     {
-        self.owners
-            .note(owner, seqid_of(&call.deed), call, reply)?;
+        self.owners.note(owner, seqid_of(&call.deed), call, reply)?;
         drop_owned(&mut self.closed, owner);
         match closed {
             None => Ok(()),

@@ -6,11 +6,11 @@ ghost use Rattle.nm_rules.specs.Answer.{answer_to, reply_with};
 ghost use Rattle.nm_state.specs.Opening.{Applied, after_end};
 
 use crate::closed::{copy_rows, drop_of};
+use nm_owners::Owners;
 use nm_rules::{
     Call, Deed, Event, FileRow, FsNum, Instance, Items, Memory, OpStatus, OpenRow, OwnerRow, Reply,
     ReplyValue, Verdict,
 };
-use nm_owners::Owners;
 use nm_shares::Shares;
 use nm_tree::Tree;
 use std::alloc::Global;
