@@ -5,7 +5,9 @@
 mod attributes;
 mod checks;
 mod claims;
+mod closed;
 mod closes;
+mod confirms;
 mod data;
 #[cfg(test)]
 mod file_tests;
@@ -15,9 +17,11 @@ mod making;
 mod names;
 mod opens;
 mod parts;
+mod seqids;
 mod setting;
 mod shown;
 mod state;
+mod stateids;
 #[cfg(test)]
 mod steps;
 mod tables;
