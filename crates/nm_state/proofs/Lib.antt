@@ -4,3 +4,5 @@ pub mod EditLemmas
 pub mod HolderLemmas
 pub mod OpeningLemmas
 pub mod PageLemmas
+pub mod TurnLemmas
+pub mod WentLemmas

@@ -7,9 +7,10 @@ use Rattle.nm_rules.specs.Parties.{Party}
 use Rattle.nm_rules.specs.Attributes.{asked_size}
 use Rattle.nm_rules.specs.Contents.{TreeWord, file_at, child_at, tree_after, size_limit, total_limit, total_size}
 use Rattle.nm_rules.specs.Shares.{open_at, open_of, put_open, opens_after}
-use Rattle.nm_rules.specs.Past.{words, no_words, is_done, deed_words, claimed_name, claimed_in, opener, open_tree, opentype_asks, cuts}
+use Rattle.nm_rules.specs.Past.{Words, words, no_words, with_owners, is_done, deed_words, judgement_for, noted, owner_word, seqid_owner, claimed_name, claimed_in, opener, open_tree, opentype_asks, cuts}
+use Rattle.nm_rules.specs.Seqids.OwnerWord.{Stays}
 use Rattle.nm_rules.specs.Seen.{Seen, look, after, after_words, empty}
-use Rattle.nm_rules.specs.Opens.{GoesOpen, open_checks, close_checks, close_checks_at, open_value, close_value, closed_stateid, open_named, row_to_open, file_to_open, target, tree_limit}
+use Rattle.nm_rules.specs.Opens.{GoesOpen, file_to_open, target, tree_limit}
 use Rattle.nm_rules.specs.Answer.{answer_to, reply_by, reply_with, refused_value, ok_value, checks}
 use Rattle.nm_rules.specs.Checks.{Stop, first, refusal, refuse_if}
 use Rattle.nm_rules.specs.Files.{changes_past_end, sized_limit}
@@ -34,33 +35,17 @@ use Rattle.nm_rules.specs.declared.calls.ReplyValue.{ReplyValue}
 use Rattle.nm_rules.specs.declared.status.OpStatus.{OpStatus}
 use Rattle.nm_rules.specs.declared.status.OpStatus.TheVariants.{Nfs4Ok, FBig, NoSpc, Resource}
 use Rattle.nm_rules.specs.declared.rows.OpenRow.{OpenRow}
-use Rattle.nm_rules.proofs.Legal.{same_row, drew_new, words-refused, sound-after, claimed_is_target}
-use Rattle.nm_rules.proofs.ShareLaws.{named_is_live}
+use Rattle.nm_rules.proofs.Legal.{words-refused, sound-after}
+use Rattle.nm_rules.proofs.OwnerLaws.{same-after}
 use Rattle.nm_shares.specs.Rows.{row_to_take, last_after}
-use Rattle.nm_state.specs.Opening.{open_word, after_word, after_taking, after_open, after_drop, after_end, Applied, HasRoom}
-
-same_after : (s : Seen) → after_words s no_words ≡ s
-unfolding after_words tree_after opens_after
-same_after s = refl
-
--- a refusal leaves all as it was
-pub after-refused : (s : Seen) (call : Call) (verdict : Verdict) (status : OpStatus)
-    → after s (Asked call verdict) (reply_with status (refused_value call.deed)) ≡ s
-after-refused s call verdict status = ap (after_words s) (words-refused (look s) call verdict status) ∙ same_after s
+use Rattle.nm_state.specs.State.{StateNow, ended}
+use Rattle.nm_state.specs.Opening.{open_word, after_word, after_taking, after_open, after_end, Applied, HasRoom}
 
 -- what a call is answered, by what stops it
-stopped_answer : (s : Seen) (call : Call) (verdict : Verdict) (x : Option Stop) → first (checks s call.caller call.file verdict call.deed) ≡ x
+pub stopped_answer : (s : Seen) (call : Call) (verdict : Verdict) (x : Option Stop) → first (checks s call.caller call.file verdict call.deed) ≡ x
     → reply_by s call x ≡ answer_to s (Asked call verdict)
 unfolding answer_to
 stopped_answer s call verdict x stops = ap (reply_by s call) (sym stops)
-
--- a call that is refused
-pub applied_refused : (s : Seen) (call : Call) (verdict : Verdict) (status : OpStatus) → Some (Refuse status) ≡ first (checks s call.caller call.file verdict call.deed)
-    → Applied s (Asked call verdict) (reply_with status (refused_value call.deed)) s
-applied_refused s call verdict status stops = record {
-  answer = stopped_answer s call verdict (Some (Refuse status)) (sym stops);
-  tables = sym (after-refused s call verdict status);
-}
 
 -- what a call that nothing stops is answered
 pub answered : (s : Seen) (call : Call) (verdict : Verdict) (value : ReplyValue) → None ≡ first (checks s call.caller call.file verdict call.deed)
@@ -68,15 +53,50 @@ pub answered : (s : Seen) (call : Call) (verdict : Verdict) (value : ReplyValue)
     → reply_with Nfs4Ok value ≡ answer_to s (Asked call verdict)
 answered s call verdict value goes it = ap (reply_with Nfs4Ok) it ∙ stopped_answer s call verdict None (sym goes)
 
--- and what it leaves, by its words
-pub applied : (s : Seen) (call : Call) (verdict : Verdict) (value : ReplyValue) (new : Seen) → None ≡ first (checks s call.caller call.file verdict call.deed)
+-- ---- operations without a seqid
+
+abbrev pub HasNone : Seen → Call → Type 0
+HasNone s call = seqid_owner (look s) call.caller call.deed ≡ None
+
+-- Nobody moves on by such an operation, and it acts where it is done.
+no_owner : (s : Seen) (call : Call) (verdict : Verdict) (r : Reply) → HasNone s call
+    → words (look s) (Asked call verdict) r
+    ≡ with_owners (cond (is_done r.status) (deed_words (look s) call.caller call.file call.deed r.value) no_words) Stays
+unfolding words judgement_for noted
+no_owner s call verdict r none = rw none refl
+
+stays_put : (s : Seen) (call : Call) (r : Reply) → HasNone s call → owner_word (look s) call r ≡ Stays
+unfolding judgement_for noted
+stays_put s call r none = rw none refl
+
+-- a refusal leaves all as it was
+after-refused : (s : Seen) (call : Call) (verdict : Verdict) (status : OpStatus) → HasNone s call
+    → after s (Asked call verdict) (reply_with status (refused_value call.deed)) ≡ s
+after-refused s call verdict status none =
+    ap (after_words s) (words-refused (look s) call verdict status ∙ ap (with_owners no_words) (stays_put s call (reply_with status (refused_value call.deed)) none))
+    ∙ same-after s
+
+-- a call that is refused
+pub applied_refused : (s : Seen) (call : Call) (verdict : Verdict) (status : OpStatus) → HasNone s call
+    → Some (Refuse status) ≡ first (checks s call.caller call.file verdict call.deed)
+    → Applied s (Asked call verdict) (reply_with status (refused_value call.deed)) s
+applied_refused s call verdict status none stops = record {
+  answer = stopped_answer s call verdict (Some (Refuse status)) (sym stops);
+  tables = sym (after-refused s call verdict status none);
+}
+
+-- and what one leaves that nothing stops, by its words
+pub applied : (s : Seen) (call : Call) (verdict : Verdict) (value : ReplyValue) (new : Seen) → HasNone s call
+    → None ≡ first (checks s call.caller call.file verdict call.deed)
     → value ≡ ok_value s call.caller call.file call.deed
-    → new ≡ after_words s (deed_words (look s) call.caller call.file call.deed (ok_value s call.caller call.file call.deed))
+    → new ≡ after_words s (with_owners (deed_words (look s) call.caller call.file call.deed (ok_value s call.caller call.file call.deed)) Stays)
     → Applied s (Asked call verdict) (reply_with Nfs4Ok value) new
-unfolding words is_done
-applied s call verdict value new goes it leaves = record {
+unfolding is_done
+applied s call verdict value new none goes it leaves = record {
   answer = answered s call verdict value goes it;
-  tables = leaves ∙ ap (λ v. after_words s (deed_words (look s) call.caller call.file call.deed v)) (sym it);
+  tables = leaves
+      ∙ ap (λ v. after_words s (with_owners (deed_words (look s) call.caller call.file call.deed v) Stays)) (sym it)
+      ∙ ap (after_words s) (sym (no_owner s call verdict (reply_with Nfs4Ok value) none));
 }
 
 -- with its end all that an instance holds goes
@@ -98,32 +118,40 @@ no_change (deed.GetAttr _) = true
 no_change (deed.Lookup _) = true
 no_change deed.LookupP = true
 no_change (deed.Open _) = false
+no_change (deed.OpenConfirm _) = false
+no_change (deed.OpenDowngrade _) = false
 no_change (deed.Read _) = true
 no_change (deed.ReadDir _) = true
 no_change (deed.Remove _) = false
 no_change (deed.SetAttr _) = false
 no_change (deed.Write _) = false
 
+unchanged : (s : Seen) (caller : Option Party) (file : ℕ) (d : Deed) (verdict : Verdict) (r : Reply) → no_change d ≡ true
+    → words (look s) (Asked (record { caller = caller; file = file; deed = d }) verdict) r ≡ no_words
+unfolding seqid_owner
+unchanged s caller file (deed.Access args) verdict r h = no_owner s (record { caller = caller; file = file; deed = deed.Access args }) verdict r refl ∙ ap (λ w. with_owners w Stays) (either_way (is_done r.status) no_words)
+unchanged s caller file (deed.Close _) verdict r h = absurd (true≢false (sym h))
+unchanged s caller file (deed.Commit args) verdict r h = no_owner s (record { caller = caller; file = file; deed = deed.Commit args }) verdict r refl ∙ ap (λ w. with_owners w Stays) (either_way (is_done r.status) no_words)
+unchanged s caller file (deed.Create _) verdict r h = absurd (true≢false (sym h))
+unchanged s caller file (deed.GetAttr args) verdict r h = no_owner s (record { caller = caller; file = file; deed = deed.GetAttr args }) verdict r refl ∙ ap (λ w. with_owners w Stays) (either_way (is_done r.status) no_words)
+unchanged s caller file (deed.Lookup args) verdict r h = no_owner s (record { caller = caller; file = file; deed = deed.Lookup args }) verdict r refl ∙ ap (λ w. with_owners w Stays) (either_way (is_done r.status) no_words)
+unchanged s caller file deed.LookupP verdict r h = no_owner s (record { caller = caller; file = file; deed = deed.LookupP }) verdict r refl ∙ ap (λ w. with_owners w Stays) (either_way (is_done r.status) no_words)
+unchanged s caller file (deed.Open _) verdict r h = absurd (true≢false (sym h))
+unchanged s caller file (deed.OpenConfirm _) verdict r h = absurd (true≢false (sym h))
+unchanged s caller file (deed.OpenDowngrade _) verdict r h = absurd (true≢false (sym h))
+unchanged s caller file (deed.Read args) verdict r h = no_owner s (record { caller = caller; file = file; deed = deed.Read args }) verdict r refl ∙ ap (λ w. with_owners w Stays) (either_way (is_done r.status) no_words)
+unchanged s caller file (deed.ReadDir args) verdict r h = no_owner s (record { caller = caller; file = file; deed = deed.ReadDir args }) verdict r refl ∙ ap (λ w. with_owners w Stays) (either_way (is_done r.status) no_words)
+unchanged s caller file (deed.Remove _) verdict r h = absurd (true≢false (sym h))
+unchanged s caller file (deed.SetAttr _) verdict r h = absurd (true≢false (sym h))
+unchanged s caller file (deed.Write _) verdict r h = absurd (true≢false (sym h))
+
 pub applied_same : (s : Seen) (caller : Option Party) (file : ℕ) (d : Deed) (verdict : Verdict) (r : Reply) → no_change d ≡ true
     → r ≡ answer_to s (Asked (record { caller = caller; file = file; deed = d }) verdict)
     → Applied s (Asked (record { caller = caller; file = file; deed = d }) verdict) r s
-unfolding words
-applied_same s caller file d verdict r same it = record { answer = it; tables = sym (ap (after_words s) (by_deed d same) ∙ same_after s) }
-  where
-    by_deed : (d : Deed) → no_change d ≡ true → cond (is_done r.status) (deed_words (look s) caller file d r.value) no_words ≡ no_words
-    by_deed (deed.Access _) h = either_way (is_done r.status) no_words
-    by_deed (deed.Close _) h = absurd (true≢false (sym h))
-    by_deed (deed.Commit _) h = either_way (is_done r.status) no_words
-    by_deed (deed.Create _) h = absurd (true≢false (sym h))
-    by_deed (deed.GetAttr _) h = either_way (is_done r.status) no_words
-    by_deed (deed.Lookup _) h = either_way (is_done r.status) no_words
-    by_deed deed.LookupP h = either_way (is_done r.status) no_words
-    by_deed (deed.Open _) h = absurd (true≢false (sym h))
-    by_deed (deed.Read _) h = either_way (is_done r.status) no_words
-    by_deed (deed.ReadDir _) h = either_way (is_done r.status) no_words
-    by_deed (deed.Remove _) h = absurd (true≢false (sym h))
-    by_deed (deed.SetAttr _) h = absurd (true≢false (sym h))
-    by_deed (deed.Write _) h = absurd (true≢false (sym h))
+applied_same s caller file d verdict r same it = record {
+  answer = it;
+  tables = sym (ap (after_words s) (unchanged s caller file d verdict r same) ∙ same-after s);
+}
 
 pub applied_as : (s : Seen) (call : Call) (d : Deed) (verdict : Verdict) (r : Reply) → no_change d ≡ true → call.deed ≡ d
     → r ≡ answer_to s (Asked (record { caller = call.caller; file = call.file; deed = d }) verdict)
@@ -141,76 +169,22 @@ pub applied_sound : (before : Seen) (event : Event) (reply : Reply) (new : Seen)
 applied_sound before event reply new sound applied =
     rw (applied.tables, applied.answer) (sound-after before event sound)
 
--- ---- OPEN and CLOSE
+-- its end by itself
+ends : (s : Seen) (party : Party) (new : Seen) → new ≡ after_end s party → new ≡ after s (Ended party) (answer_to s (Ended party))
+ends s party new it =
+    let applied : Applied s (Ended party) (reply_with Nfs4Ok told.Nothing) (after_end s party) = applied_end s party in
+    it ∙ applied.tables ∙ ap (after s (Ended party)) applied.answer
 
--- An OPEN that nothing stops leaves its file and its open.
-pub leaves_open : (s : Seen) (party : Party) (file : ℕ) (args : OpenArgs) → rises 0 s.last s.opens ≡ true
-    → after_open s party file args
-    ≡ after_words s (deed_words (look s) (Some party) file (deed.Open args) (told.Open (open_value s (Some party) file args)))
-unfolding after_words opens_after look open_value row_to_open row_to_take last_after after_taking after_word open_word after_open
-leaves_open s party file args rising =
-    let owner : Owner = opener party args in
-    let its_file : ℕ = file_to_open s file args in
-    let named = sym (claimed_is_target s.tree.table file (claimed_name args.claim)) in
-    let same = sym (same_row s.last s.opens owner its_file args.access args.deny rising (open_of owner its_file s.opens) refl) in
-    let drew = sym (drew_new s.last s.opens owner its_file args.access args.deny rising (open_of owner its_file s.opens) refl) in
-    λ i. record {
-      fs = s.fs;
-      grants = s.grants;
-      tree = tree_after (open_tree (file_at its_file s.tree.table) file (claimed_name args.claim) args.opentype (named i) its_file) s.tree;
-      opens = put_open (same i) s.opens;
-      last = cond (drew i) (s.last + 1) s.last;
-    }
+pub ended_is : (before : Seen) (spent : Bool) (now : StateNow) (party : Party) (new : Seen) → record { seen = before; spent = spent } ≡ now → new ≡ after_end before party
+    → record { seen = new; spent = spent } ≡ ended now party
+ended_is before spent now party new is it =
+    subst (λ (n : StateNow). record { seen = new; spent = spent } ≡ ended n party) is (ap (λ (s : Seen). record { seen = s; spent = spent }) (ends before party new it))
 
--- an OPEN that nothing stops
-pub applied_open : (s : Seen) (party : Party) (file : ℕ) (args : OpenArgs) (verdict : Verdict) (opened : Opened) → rises 0 s.last s.opens ≡ true
-    → None ≡ first (open_checks s (Some party) file args verdict) → Some opened ≡ open_value s (Some party) file args
-    → Applied s (Asked (record { caller = Some party; file = file; deed = deed.Open args }) verdict) (reply_with Nfs4Ok (told.Open (Some opened))) (after_open s party file args)
-applied_open s party file args verdict opened rising goes value =
-    applied s (record { caller = Some party; file = file; deed = deed.Open args }) verdict (told.Open (Some opened)) (after_open s party file args) goes
-    (ap told.Open value) (leaves_open s party file args rising)
+pub ends_sound : (s : Seen) (party : Party) (new : Seen) → IsSound s → new ≡ after_end s party → IsSound new
+ends_sound s party new sound it =
+    subst (λ x. IsSound x) (sym it) (applied_sound s (Ended party) (reply_with Nfs4Ok told.Nothing) (after_end s party) sound (applied_end s party))
 
--- what an OPEN that nothing stops is answered
-pub answered_open : (s : Seen) (party : Party) (file : ℕ) (args : OpenArgs) (verdict : Verdict) (opened : Opened)
-    → None ≡ first (open_checks s (Some party) file args verdict) → Some opened ≡ open_value s (Some party) file args
-    → reply_with Nfs4Ok (told.Open (Some opened)) ≡ answer_to s (Asked (record { caller = Some party; file = file; deed = deed.Open args }) verdict)
-answered_open s party file args verdict opened goes value =
-    answered s (record { caller = Some party; file = file; deed = deed.Open args }) verdict (told.Open (Some opened)) goes (ap told.Open value)
-
--- a CLOSE drops the open that it answers
-leaves_close : (s : Seen) (caller : Option Party) (file : ℕ) (args : CloseArgs) (id : StateId) → close_value s args ≡ Some id
-    → after_drop s id.counter ≡ after_words s (deed_words (look s) caller file (deed.Close args) (told.Close (close_value s args)))
-unfolding after_words tree_after after_drop
-leaves_close s caller file args id value = rw value refl
-
--- a CLOSE that nothing stops
-pub applied_close : (s : Seen) (caller : Option Party) (file : ℕ) (args : CloseArgs) (verdict : Verdict) (id : StateId)
-    → None ≡ first (close_checks s caller file args verdict) → close_value s args ≡ Some id
-    → Applied s (Asked (record { caller = caller; file = file; deed = deed.Close args }) verdict) (reply_with Nfs4Ok (told.Close (Some id))) (after_drop s id.counter)
-applied_close s caller file args verdict id goes value =
-    applied s (record { caller = caller; file = file; deed = deed.Close args }) verdict (told.Close (Some id)) (after_drop s id.counter) goes
-    (ap told.Close (sym value)) (leaves_close s caller file args id value)
-
--- a CLOSE that nothing stops names a live open
-pub close_names : (s : Seen) (caller : Option Party) (file : ℕ) (args : CloseArgs) (verdict : Verdict) → None ≡ first (close_checks s caller file args verdict)
-    → IsSome (open_named s args.stateid)
-unfolding close_checks close_checks_at
-close_names s caller file args verdict goes = by_row (open_named s args.stateid) goes
-  where
-    by_row : (o : Option OpenRow) → None ≡ first (close_checks_at (file_at file s.tree.table) caller file args verdict o) → IsSome o
-    by_row None h = cc
-    by_row (Some row) h = refl
-
--- what a CLOSE that nothing stops tells is the stateid of a live open
-pub close_drops : (s : Seen) (args : CloseArgs) (id : StateId) → close_value s args ≡ Some id → IsSome (open_at id.counter s.opens)
-unfolding close_value
-close_drops s args id value = by_row (open_named s args.stateid) refl value
-  where
-    by_row : (o : Option OpenRow) → open_named s args.stateid ≡ o → closed_stateid s.fs o ≡ Some id → IsSome (open_at id.counter s.opens)
-    by_row None named told = cc
-    by_row (Some row) named told =
-        let it : row.counter ≡ id.counter = cc in
-        rw (← it, named_is_live s args.stateid row named) refl
+-- ---- what an OPEN that nothing stops needs
 
 -- where a counter is drawn there is one
 below : (a : Bool) (n : ℕ) → (a && nat_le (2 ^ 63) n) ≡ false → a ≡ true → n < 2 ^ 63

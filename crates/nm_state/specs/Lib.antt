@@ -3,3 +3,4 @@ pub mod Listing
 pub mod Opening
 pub mod Pages
 pub mod State
+pub mod Turns

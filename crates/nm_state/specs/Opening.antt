@@ -1,9 +1,11 @@
--- What an OPEN and a CLOSE that nothing stops leave of the tables.
+-- What operations on opens that nothing stops leave of the tables.
 use Rattle.std.specs.Prelude.{◌≡◌, ◌<◌, ◌≤◌, ◌-◌, ◌^◌, ℕ}
 use Rattle.nm_rules.specs.Parties.{Party}
 use Rattle.nm_rules.specs.Contents.{TreeNow, TreeWord, file_at, size_limit, total_limit, total_size, tree_after}
-use Rattle.nm_rules.specs.Shares.{put_open, opens_after}
-use Rattle.nm_rules.specs.Shares.OpenWord.{Drop, DropOf}
+use Rattle.nm_rules.specs.Seqids.{closed_after, owners_after}
+use Rattle.nm_rules.specs.Seqids.OwnerWord.{GoneOf}
+use Rattle.nm_rules.specs.Shares.{OpenWord, put_open, opens_after}
+use Rattle.nm_rules.specs.Shares.OpenWord.{DropOf}
 use Rattle.nm_rules.specs.Past.{claimed_name, opener, open_tree}
 use Rattle.nm_rules.specs.Seen.{Seen, after}
 use Rattle.nm_rules.specs.Answer.{answer_to}
@@ -34,11 +36,16 @@ unfoldable pub after_open : Seen → Party → ℕ → OpenArgs → Seen
 after_open s party file args =
     after_taking (after_word (open_word s file args) s) (opener party args) (file_to_open s file args) args.access args.deny
 
-unfoldable pub after_drop : Seen → ℕ → Seen
-after_drop s counter = record s { opens = opens_after (Drop counter) s.opens }
+-- the change of the opens
+unfoldable pub after_opens : OpenWord → Seen → Seen
+after_opens word s = record s { opens = opens_after word s.opens }
 
 unfoldable pub after_end : Seen → Party → Seen
-after_end s party = record s { opens = opens_after (DropOf party) s.opens }
+after_end s party = record s {
+  opens = opens_after (DropOf party) s.opens;
+  owners = owners_after (GoneOf party) s.owners;
+  closed = closed_after (GoneOf party) s.closed;
+}
 
 -- The reply is the answer to the event, and the tables are those after it.
 pub record Applied (before : Seen) (event : Event) (reply : Reply) (new : Seen) : Type 0 where

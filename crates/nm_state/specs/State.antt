@@ -1,10 +1,18 @@
 -- What `FsState` is, and what an event makes of it.
-use Rattle.std.specs.Prelude.{◌≡◌, ℕ, Bool, true, false, Result, Ok, Err}
+use Rattle.std.specs.Prelude.{◌≡◌, ℕ, Bool, true, false, Option, Some, None, Result, Ok, Err}
+use Rattle.nm_rules.specs.Parties.{Party}
 use Rattle.nm_rules.specs.Seen.{Seen, empty, after}
+use Rattle.nm_rules.specs.Stateids.{resolved}
 use Rattle.nm_rules.specs.Answer.{answer_to}
 use Rattle.nm_rules.specs.declared.calls.Event.{Event}
+use Rattle.nm_rules.specs.declared.calls.Event.TheVariants.{Ended}
 use Rattle.nm_rules.specs.declared.calls.Reply.{Reply}
+use Rattle.nm_rules.specs.declared.calls.StateId.{StateId}
+use Rattle.nm_rules.specs.declared.calls.StateRef.TheVariants.{Named}
 use Rattle.nm_rules.specs.declared.memory.Memory.{Memory}
+use Rattle.nm_rules.specs.declared.rows.OpenRow.{OpenRow}
+use Rattle.nm_rules.specs.declared.status.OpStatus.{OpStatus}
+use Rattle.nm_rules.specs.declared.status.OpStatus.TheVariants.{BadStateId}
 
 -- The tables, and whether memory was wanting in the middle of a change: then nothing is known of them.
 pub record StateNow : Type 0 where
@@ -25,3 +33,15 @@ Applies old event (Err _) new = new.spent ≡ true
 abbrev pub Answers : StateNow → Event → Result Reply Memory → Type 0
 Answers now event (Ok reply) = (now.spent ≡ false) × (reply ≡ answer_to now.seen event)
 Answers now event (Err _) = Unit {0}
+
+-- What the end of an instance leaves, which also a state that is spent takes.
+abbrev pub ended : StateNow → Party → StateNow
+ended now party = record { seen = after now.seen (Ended party) (answer_to now.seen (Ended party)); spent = now.spent }
+
+-- the instance of the owner whose open a stateid stands for
+abbrev pub holder_in : Option OpenRow → Result Party OpStatus
+holder_in None = Err BadStateId
+holder_in (Some row) = Ok row.owner.instance
+
+unfoldable pub holder_of : Seen → StateId → Result Party OpStatus
+holder_of s id = holder_in (resolved s (Named id))

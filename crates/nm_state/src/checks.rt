@@ -6,13 +6,11 @@ ghost use Rattle.nm_rules.specs.Names.{name_fault, is_bad_name, parts_paths};
 ghost use Rattle.nm_rules.specs.Contents.{size_limit, total_limit, is_directory};
 ghost use Rattle.nm_rules.specs.Checks.{refuse_if, lease_stop, missing_stop, is_dir, is_no_dir, arguments_fault};
 ghost use Rattle.nm_rules.specs.Files.{current, changes_past_end, makes_past_end, size_of, fills_up, sized_limit, change_of, changed_dir};
-ghost use Rattle.nm_rules.specs.Opens.{open_named, is_own, seqid_stop, given_seqid, stateid_stop};
-ghost use Rattle.nm_rules.specs.Shares.{meets};
 ghost use Rattle.nm_state.specs.Asked.{asks_of_code};
 
 use crate::attributes::Asked;
 use crate::tables::Tables;
-use nm_rules::{ChangeInfo, FileKind, FileRow, Instance, OpStatus, OpenRow, StateRef, Verdict};
+use nm_rules::{ChangeInfo, FileKind, FileRow, OpStatus, Verdict};
 
 /// The last counter, file's number and change's number: none comes after it.
 pub const LAST: u64 = 1 << 63;
@@ -41,64 +39,6 @@ pub fn lease_refusal(verdict: Verdict) -> Option<OpStatus>
         Verdict::Pass => None,
         Verdict::LeaseMoved => Some(OpStatus::LeaseMoved),
     }
-}
-
-/// A live open is the caller's own.
-pub fn is_own(caller: Option<Instance>, row: &OpenRow) -> bool
-    ensures { result ≡ is_own caller row.now }
-{
-    match caller {
-        Some(party) => party.is_same(&row.owner.instance),
-        None => false,
-    }
-}
-
-/// The seqid that a request's stateid gives.
-pub fn given_seqid(stateid: StateRef) -> u32
-    ensures { result ≡ given_seqid stateid }
-{
-    match stateid {
-        StateRef::Zeros => 0,
-        StateRef::Ones => u32::MAX,
-        StateRef::Named(id) => id.seqid,
-    }
-}
-
-// What a stateid's seqid says, by the one that stands.
-fn seqid_refusal(now: u32, given: u32) -> Option<OpStatus>
-    ensures { result ≡ seqid_stop now given }
-{
-    if now == given {
-        return None;
-    }
-    let behind = (u64::from(now) + (1 << 32) - u64::from(given)) % (1 << 32);
-    if behind <= 1 << 31 {
-        Some(OpStatus::OldStateId)
-    } else {
-        Some(OpStatus::BadStateId)
-    }
-}
-
-/// Whether what one opener does is what the other denies, or has.
-pub fn meets(access: u32, deny: u32) -> bool
-    ensures { result ≡ meets access deny }
-{
-    access & deny != 0
-}
-
-/// What a stateid of an open says: it has to be of the current file and as it was told last, and the open has to have this
-/// access.
-#[tactic(auto, unfolding(nm_rules::specs::Opens::stateid_stop))]
-pub fn stateid_stop(file: u64, stateid: StateRef, access: u32, row: &OpenRow) -> Option<OpStatus>
-    ensures { result ≡ stateid_stop file stateid access row.now }
-{
-    if row.file != file {
-        return Some(OpStatus::BadStateId);
-    }
-    seqid_refusal(row.seqid, given_seqid(stateid)).or(refuse_if(
-        access != 0 && !meets(access, row.access),
-        OpStatus::OpenMode,
-    ))
 }
 
 // A slash or a zero byte is in the name.
@@ -151,17 +91,6 @@ pub fn arguments_fault(invalid: bool, name: &[u8], asks: Asked) -> Option<OpStat
 }
 
 impl Tables {
-    /// The live open that a stateid names here.
-    #[tactic(auto, unfolding(nm_rules::specs::Opens::open_named))]
-    pub fn open_named(&self, stateid: StateRef) -> Option<&OpenRow>
-        ensures { option_copied result ≡ open_named self.now stateid }
-    {
-        match stateid {
-            StateRef::Named(id) if id.fs == self.fs.number() => self.shares.open_at(id.counter),
-            _ => None,
-        }
-    }
-
     /// The current file isn't there.
     pub fn missing_stop(&self, file: u64) -> Option<OpStatus>
         ensures { result ≡ missing_stop (current self.now file) }

@@ -1,71 +1,49 @@
 //! CLOSE (RFC 7530, 16.2).
-ghost use Rattle.std.specs.Prelude.{◌≡◌, Some, IsSome};
-ghost use Rattle.nm_rules.specs.Shares.{open_at};
-ghost use Rattle.nm_rules.specs.Checks.{first, refusal};
-ghost use Rattle.nm_rules.specs.Files.{current};
-ghost use Rattle.nm_rules.specs.Opens.{open_named, close_checks, close_checks_at, close_value};
-ghost use Rattle.nm_rules.specs.declared.calls.Event.TheVariants.{Asked as AskedEvent};
-ghost use Rattle.nm_rules.specs.declared.calls.Deed.TheVariants.{Close as CloseDeed};
+ghost use Rattle.std.specs.Prelude.{◌≡◌, Some, IfOk, IsSome, option_map};
 ghost use Rattle.nm_rules.specs.Answer.{answer_to};
-ghost use Rattle.nm_state.specs.Opening.{Applied, after_drop};
+ghost use Rattle.nm_rules.specs.Checks.{behind_seqid};
+ghost use Rattle.nm_rules.specs.Opens.{changed_stateid, close_checks};
+ghost use Rattle.nm_rules.specs.Shares.{open_at, renewed_row};
+ghost use Rattle.nm_rules.specs.Shares.OpenWord.{Drop as DropOpen};
+ghost use Rattle.nm_rules.specs.Stateids.{open_named};
+ghost use Rattle.nm_rules.specs.declared.calls.Deed.TheVariants.{Close as CloseDeed};
+ghost use Rattle.nm_rules.specs.declared.calls.Event.TheVariants.{Asked as AskedEvent};
+ghost use Rattle.nm_state.specs.Opening.{Applied, after_opens};
+ghost use Rattle.nm_state.specs.Turns.{Went, reply_behind};
 
-use crate::checks::{is_own, lease_refusal, stateid_stop};
+use crate::checks::{lease_refusal, refuse_if};
+use crate::seqids::Turn;
 use crate::tables::Tables;
-use nm_rules::{CloseArgs, Instance, OpStatus, OpenRow, Reply, ReplyValue, StateId, Verdict};
+use nm_rules::{
+    Call, CloseArgs, Memory, OpStatus, OpenRow, Reply, ReplyValue, StateId, StateRef, Verdict,
+};
 use nm_shares::seqid_after;
 
 impl Tables {
-    // The first class that refuses a CLOSE of this open.
-    #[tactic(auto, unfolding(nm_rules::specs::Opens::close_checks_at))]
-    fn close_row_stop(
-        &self,
-        caller: Option<Instance>,
-        file: u64,
-        args: &CloseArgs,
-        verdict: Verdict,
-        row: &OpenRow,
-    ) -> Option<OpStatus>
-        ensures { refusal result ≡ first (close_checks_at (current self.now file) caller file args.now verdict (Some row.now)) }
+    // The first class behind the seqid that refuses a CLOSE.
+    #[tactic(auto, unfolding(nm_rules::specs::Opens::close_checks))]
+    fn close_stop(&self, call: &Call, args: &CloseArgs, verdict: Verdict) -> Option<OpStatus>
+        ensures { result ≡ behind_seqid (close_checks self.now call.now.caller call.now.file args.now verdict) }
     {
-        if !is_own(caller, row) {
-            return Some(OpStatus::BadStateId);
-        }
         if let Some(status) = lease_refusal(verdict) {
             return Some(status);
         }
-        if let Some(status) = self.missing_stop(file) {
+        if let Some(status) = self.missing_stop(call.file) {
             return Some(status);
         }
-        if self.is_dir(file) {
-            return Some(OpStatus::IsDir);
+        if let Some(status) = refuse_if(self.is_dir(call.file), OpStatus::IsDir) {
+            return Some(status);
         }
-        stateid_stop(file, args.stateid, 0, row)
+        self.live_stop(call.file, args.stateid, 0, self.open_named(args.stateid))
     }
 
-    // The first class that refuses a CLOSE.
-    #[tactic(auto, unfolding(nm_rules::specs::Opens::close_checks, nm_rules::specs::Opens::close_checks_at))]
-    fn close_stop(
-        &self,
-        caller: Option<Instance>,
-        file: u64,
-        args: &CloseArgs,
-        verdict: Verdict,
-    ) -> Option<OpStatus>
-        ensures { refusal result ≡ first (close_checks self.now caller file args.now verdict) }
+    /// The stateid of a live open with its next seqid, as it is told where it is changed.
+    #[tactic(auto, unfolding(nm_rules::specs::Opens::changed_stateid))]
+    pub fn changed_stateid(&self, stateid: StateRef) -> StateId
+        requires { IsSome (open_named self.now stateid) }
+        ensures { changed_stateid self.now stateid ≡ Some result }
     {
-        match self.open_named(args.stateid) {
-            Some(row) => self.close_row_stop(caller, file, args, verdict, row),
-            None => Some(OpStatus::BadStateId),
-        }
-    }
-
-    // What a CLOSE that nothing stops tells.
-    #[tactic(auto, unfolding(nm_rules::specs::Opens::close_value))]
-    fn closed(&self, args: &CloseArgs) -> StateId
-        requires { IsSome (open_named self.now args.now.stateid) }
-        ensures { close_value self.now args.now ≡ Some result }
-    {
-        match self.open_named(args.stateid) {
+        match self.open_named(stateid) {
             Some(row) => StateId {
                 seqid: seqid_after(row.seqid),
                 fs: self.fs.number(),
@@ -75,48 +53,93 @@ impl Tables {
         }
     }
 
+    // What a CLOSE whose turn it is is answered.
+    fn close_reply(&self, call: &Call, args: &CloseArgs, verdict: Verdict) -> Reply
+        ensures { result ≡ reply_behind self.now (record { caller = call.now.caller; file = call.now.file; deed = CloseDeed args.now }) verdict }
+    {
+        if let Some(status) = self.close_stop(call, args, verdict) {
+            return self.reply(status, ReplyValue::Close(None));
+        }
+        let id = self.changed_stateid(args.stateid);
+        self.reply(OpStatus::Nfs4Ok, ReplyValue::Close(Some(id)))
+    }
+
+    // A live open as it is closed.
+    fn closed_row(&self, counter: u64) -> Result<OpenRow, Memory>
+        requires { IsSome (open_at counter self.now.opens) }
+        ensures { IfOk result (λ row. Some row ≡ option_map renewed_row (open_at counter self.now.opens)) }
+    {
+        match self.shares.open_at(counter) {
+            Some(row) => {
+                let mut closed = row.copy()?;
+                closed.seqid = seqid_after(closed.seqid);
+                Ok(closed)
+            }
+            None => unreachable!(),
+        }
+    }
+
     // Closes a live open.
-    #[tactic(auto, unfolding(crate::specs::Opening::after_drop))]
+    #[tactic(auto, unfolding(crate::specs::Opening::after_opens))]
     fn drop_open(&mut self, counter: u64)
         requires { IsSome (open_at counter self.old.opens) }
-        ensures { self.new ≡ after_drop self.old counter }
+        ensures { self.new ≡ after_opens (DropOpen counter) self.old }
     {
         self.shares.close(counter);
     }
 
-    /// What a CLOSE is answered.
-    #[tactic(auto, using(crate::proofs::OpeningLemmas::close_names))]
-    pub fn close_answer(
-        &self,
-        caller: Option<Instance>,
-        file: u64,
+    // What a CLOSE whose turn it is does: the reply, and the open that it closed.
+    fn close_in_turn(
+        &mut self,
+        call: &Call,
         args: &CloseArgs,
         verdict: Verdict,
-    ) -> Reply
-        ensures { result ≡ answer_to self.now (AskedEvent (record { caller = caller; file = file; deed = CloseDeed args.now }) verdict) }
+    ) -> Result<(Reply, Option<OpenRow>), Memory>
+        ensures { IfOk result (λ went. Went self.old (record { caller = call.now.caller; file = call.now.file; deed = CloseDeed args.now }) verdict went.0 went.1 self.new) }
     {
-        if let Some(status) = self.close_stop(caller, file, args, verdict) {
-            return self.reply(status, ReplyValue::Close(None));
+        if let Some(status) = self.close_stop(call, args, verdict) {
+            return Ok((self.reply(status, ReplyValue::Close(None)), None));
         }
-        self.reply(OpStatus::Nfs4Ok, ReplyValue::Close(Some(self.closed(args))))
+        let id = self.changed_stateid(args.stateid);
+        let row = self.closed_row(id.counter)?;
+        self.drop_open(id.counter);
+        let reply = self.reply(OpStatus::Nfs4Ok, ReplyValue::Close(Some(id)));
+        Ok((reply, Some(row)))
+    }
+
+    /// What a CLOSE is answered.
+    pub fn close_answer(
+        &self,
+        call: &Call,
+        args: &CloseArgs,
+        verdict: Verdict,
+    ) -> Result<Reply, Memory>
+        requires { call.now.deed ≡ CloseDeed args.now }
+        ensures { IfOk result (λ r. r ≡ answer_to self.now (AskedEvent call.now verdict)) }
+    {
+        match self.turn_at(self.resolved(args.stateid), args.seqid, call)? {
+            Turn::Answered(reply) => Ok(reply),
+            Turn::Of(_) => Ok(self.close_reply(call, args, verdict)),
+        }
     }
 
     /// Answers a CLOSE, and carries it out where nothing stops it.
-    #[tactic(auto, using(crate::proofs::OpeningLemmas::close_names))]
     pub fn close(
         &mut self,
-        caller: Option<Instance>,
-        file: u64,
+        call: &Call,
         args: &CloseArgs,
         verdict: Verdict,
-    ) -> Reply
-        ensures { Applied self.old (AskedEvent (record { caller = caller; file = file; deed = CloseDeed args.now }) verdict) result self.new }
+    ) -> Result<Reply, Memory>
+        requires { call.now.deed ≡ CloseDeed args.now }
+        ensures { IfOk result (λ r. Applied self.old (AskedEvent call.now verdict) r self.new) }
     {
-        if let Some(status) = self.close_stop(caller, file, args, verdict) {
-            return self.reply(status, ReplyValue::Close(None));
+        match self.turn_at(self.resolved(args.stateid), args.seqid, call)? {
+            Turn::Answered(reply) => Ok(reply),
+            Turn::Of(owner) => {
+                let (reply, closed) = self.close_in_turn(call, args, verdict)?;
+                self.note(&owner, call, &reply, closed)?;
+                Ok(reply)
+            }
         }
-        let id = self.closed(args);
-        self.drop_open(id.counter);
-        self.reply(OpStatus::Nfs4Ok, ReplyValue::Close(Some(id)))
     }
 }

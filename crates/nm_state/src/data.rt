@@ -11,8 +11,9 @@ ghost use Rattle.nm_rules.specs.declared.calls.Event.TheVariants.{Asked};
 ghost use Rattle.nm_rules.specs.declared.calls.Deed.TheVariants.{Commit as CommitDeed, Read as ReadDeed, Write as WriteDeed};
 ghost use Rattle.nm_state.specs.Opening.{Applied, after_word};
 
-use crate::checks::{is_empty, is_own, lease_refusal, meets, refuse_if, size_of, stateid_stop};
+use crate::checks::{is_empty, lease_refusal, refuse_if, size_of};
 use crate::parts::{TRANSFER_LIMIT, part, taken};
+use crate::stateids::{meets, unresolved_at};
 use crate::tables::Tables;
 use nm_rules::{
     Bytes, CommitArgs, FileRow, Instance, Memory, OpStatus, ReadArgs, ReadOk, Reply, ReplyValue,
@@ -64,7 +65,7 @@ fn write_value(args: &WriteArgs) -> Option<WriteOk>
 }
 
 impl Tables {
-    // A stateid that a server made has to stand for a live open of the caller's own.
+    // A stateid that a server made has to stand for an open of the caller's own.
     #[tactic(auto, unfolding(nm_rules::specs::Data::unresolved_stop))]
     pub(crate) fn unresolved_stop(
         &self,
@@ -76,20 +77,21 @@ impl Tables {
         match stateid {
             StateRef::Zeros => None,
             StateRef::Ones => None,
-            StateRef::Named(_) => match self.open_named(stateid) {
-                None => Some(OpStatus::BadStateId),
-                Some(row) => refuse_if(!is_own(caller, row), OpStatus::BadStateId),
-            },
+            StateRef::Named(_) => unresolved_at(caller, self.resolved(stateid)),
         }
     }
 
-    // What the open says that the stateid stands for, where there is one.
+    // What the open says that the stateid stands for, unless it is a special one.
+    #[tactic(auto, unfolding(nm_rules::specs::Data::stale_stop))]
     pub(crate) fn stale_stop(&self, file: u64, stateid: StateRef, access: u32) -> Option<OpStatus>
         ensures { result ≡ stale_stop self.now file stateid access }
     {
-        match self.open_named(stateid) {
-            None => None,
-            Some(row) => stateid_stop(file, stateid, access, row),
+        match stateid {
+            StateRef::Zeros => None,
+            StateRef::Ones => None,
+            StateRef::Named(_) => {
+                self.live_stop(file, stateid, access, self.open_named(stateid))
+            }
         }
     }
 

@@ -1,23 +1,27 @@
 //! Names and data on one file system, with expected answers from RFC 7530, 5, 12 and 16.
-use crate::steps::{How, Row, Step, What, first_other_of, last_value, open};
+use crate::steps::{How, Row, Step, What, first_other_of, last_value};
 use nm_rules::{
     AccessOk, ChangeInfo, CreateOk, Created, FileAttrs, GetAttrOk, Items, OpStatus, ReplyValue,
     StateId, StateRef,
 };
 use std::test::Fail;
 
-const NAMES: [Row; 12] = [
+const NAMES: [Row; 13] = [
     (
-        Step::Ask(b'A', 1, What::Open(b"f", How::Unchecked, 3, 0)),
+        Step::Ask(b'A', 1, What::Open(1, b"f", How::Unchecked, 3, 0)),
         OpStatus::Nfs4Ok,
     ),
     (Step::Ask(b'A', 1, What::Remove(b"f")), OpStatus::FileOpen),
-    (Step::Ask(b'A', 16, What::Close(1, 1)), OpStatus::Nfs4Ok),
+    (
+        Step::Ask(b'A', 16, What::Confirm(2, 1, 1)),
+        OpStatus::Nfs4Ok,
+    ),
+    (Step::Ask(b'A', 16, What::Close(3, 2, 1)), OpStatus::Nfs4Ok),
     (Step::Ask(b'A', 1, What::Remove(b"f")), OpStatus::Nfs4Ok),
     (Step::Ask(b'A', 1, What::MakeDir(b"d")), OpStatus::Nfs4Ok),
     (Step::Ask(b'A', 1, What::MakeDir(b"d")), OpStatus::Exist),
     (
-        Step::Ask(b'A', 1, What::Open(b"d", How::NoCreate, 1, 0)),
+        Step::Ask(b'A', 1, What::Open(4, b"d", How::NoCreate, 1, 0)),
         OpStatus::IsDir,
     ),
     (Step::Ask(b'A', 17, What::MakeDir(b"e")), OpStatus::Nfs4Ok),
@@ -71,7 +75,7 @@ fn a_directory_is_made_with_its_mode(rt: HostRuntime) -> Result<(), Fail> {
 
 const LOOKUPS: [Row; 15] = [
     (
-        Step::Ask(b'A', 1, What::Open(b"f", How::Unchecked, 1, 0)),
+        Step::Ask(b'A', 1, What::Open(1, b"f", How::Unchecked, 1, 0)),
         OpStatus::Nfs4Ok,
     ),
     (Step::Ask(b'A', 1, What::MakeDir(b"d")), OpStatus::Nfs4Ok),
@@ -103,7 +107,7 @@ fn names_are_looked_up(rt: HostRuntime) -> Result<(), Fail> {
 fn rights_and_attributes_are_told(rt: HostRuntime) -> Result<(), Fail> {
     let alloc = rt.alloc();
     let steps = [
-        open(b'A', b"f", How::Sized(5), 1, 0),
+        Step::Ask(b'A', 1, What::Open(1, b"f", How::Sized(5), 1, 0)),
         Step::Ask(b'A', 16, What::Access(0x1fe)),
         Step::Ask(b'A', 16, What::Attributes),
     ];
@@ -129,10 +133,14 @@ fn rights_and_attributes_are_told(rt: HostRuntime) -> Result<(), Fail> {
     Ok(())
 }
 
-// 16 bytes, and for each entry 24 and its name's, up to a multiple of 4.
+const FIRST: StateRef = StateRef::Named(StateId {
+    seqid: 1,
+    fs: 0,
+    counter: 1,
+});
 
 const OWN: StateRef = StateRef::Named(StateId {
-    seqid: 1,
+    seqid: 2,
     fs: 0,
     counter: 1,
 });
@@ -143,13 +151,22 @@ const OTHER: StateRef = StateRef::Named(StateId {
     counter: 2,
 });
 
-const STATEIDS: [Row; 16] = [
+const STATEIDS: [Row; 18] = [
     (
-        Step::Ask(b'A', 1, What::Open(b"f", How::Unchecked, 1, 3)),
+        Step::Ask(b'A', 1, What::Open(1, b"f", How::Unchecked, 1, 3)),
         OpStatus::Nfs4Ok,
     ),
     (
-        Step::Ask(b'A', 1, What::Open(b"g", How::Unchecked, 1, 0)),
+        Step::Ask(b'A', 1, What::Open(2, b"g", How::Unchecked, 1, 0)),
+        OpStatus::Nfs4Ok,
+    ),
+    // An owner that isn't confirmed reads nothing.
+    (
+        Step::Ask(b'A', 16, What::Read(FIRST, 0, 1)),
+        OpStatus::BadStateId,
+    ),
+    (
+        Step::Ask(b'A', 16, What::Confirm(3, 1, 1)),
         OpStatus::Nfs4Ok,
     ),
     (Step::Ask(b'A', 16, What::Read(OWN, 0, 1)), OpStatus::Nfs4Ok),
@@ -209,7 +226,7 @@ const MODE: [u8; 4] = [0, 0, 1, 0xb4];
 
 const SETTINGS: [Row; 13] = [
     (
-        Step::Ask(b'A', 1, What::Open(b"f", How::Unchecked, 1, 0)),
+        Step::Ask(b'A', 1, What::Open(1, b"f", How::Unchecked, 1, 0)),
         OpStatus::Nfs4Ok,
     ),
     (
@@ -262,11 +279,15 @@ fn size_and_mode_alone_are_set(rt: HostRuntime) -> Result<(), Fail> {
 
 const LONG: [Row; 7] = [
     (
-        Step::Ask(b'A', 1, What::Open(b"x", How::Sized((1 << 20) + 1), 3, 0)),
+        Step::Ask(
+            b'A',
+            1,
+            What::Open(1, b"x", How::Sized((1 << 20) + 1), 3, 0),
+        ),
         OpStatus::FBig,
     ),
     (
-        Step::Ask(b'A', 1, What::Open(b"x", How::Unchecked, 3, 0)),
+        Step::Ask(b'A', 1, What::Open(2, b"x", How::Unchecked, 3, 0)),
         OpStatus::Nfs4Ok,
     ),
     (

@@ -1,12 +1,15 @@
-//! The state of one file system: what was asked of it has left files and opens, and the answer to the next event is read
-//! off these (RFC 7530, 16).
+//! The state of one file system: what was asked of it has left files, opens and what is kept of owners, and the answer to
+//! the next event is read off these (RFC 7530, 9.1 and 16).
 #![tactic(auto)]
 
 mod attributes;
 mod checks;
 mod claims;
+mod closed;
 mod closes;
+mod confirms;
 mod data;
+mod entries;
 #[cfg(test)]
 mod file_tests;
 mod holders;
@@ -15,9 +18,11 @@ mod making;
 mod names;
 mod opens;
 mod parts;
+mod seqids;
 mod setting;
 mod shown;
 mod state;
+mod stateids;
 #[cfg(test)]
 mod steps;
 mod tables;

@@ -1,26 +1,45 @@
 //! OPEN (RFC 7530, 16.16).
-ghost use Rattle.std.specs.Prelude.{◌≡◌, ◌<◌, ◌^◌, true, false, Some, IfOk, OnOk, is_none, option_copied};
+ghost use Rattle.std.specs.Prelude.{◌≡◌, ◌<◌, ◌≤◌, ◌+◌, ◌^◌, true, false, None, Some, IfOk, OnOk, is_none, nat_lt, option_copied};
+ghost use Rattle.std.specs.Option.{option_or};
 ghost use Rattle.nm_rules.specs.Sound.{rises};
 ghost use Rattle.nm_rules.specs.Shares.{is_opposed, open_of};
 ghost use Rattle.nm_rules.specs.Past.{claimed_name, opener};
-ghost use Rattle.nm_rules.specs.Checks.{first, refusal};
-ghost use Rattle.nm_rules.specs.Opens.{GoesOpen, target, target_at, row_of, file_to_open, open_kind, is_share, name_refusal, draws_past_end, tree_limit, open_limit, open_checks, row_to_open, stateid_of, open_change, open_set, open_value};
+ghost use Rattle.nm_rules.specs.Checks.{behind_seqid, refuse_if};
+ghost use Rattle.nm_rules.specs.Opens.{GoesOpen, target, target_at, row_of, file_to_open, open_kind, is_share, name_refusal, draws_past_end, tree_limit, open_limit, open_checks, row_to_open, rows_limit, rows_with_open, one_if, open_change, open_flags, open_set, open_value};
+ghost use Rattle.nm_rules.specs.Stateids.{stateid_of};
+ghost use Rattle.nm_rules.specs.declared.status.OpStatus.TheVariants.{Resource};
 ghost use Rattle.nm_rules.specs.declared.calls.Event.TheVariants.{Asked as AskedEvent};
 ghost use Rattle.nm_rules.specs.declared.calls.Deed.TheVariants.{Open as OpenDeed};
 ghost use Rattle.nm_rules.specs.Answer.{answer_to};
 ghost use Rattle.nm_state.specs.Opening.{Applied, after_open, after_taking};
+ghost use Rattle.nm_state.specs.Turns.{Passes, Went, reply_behind};
 
 use crate::attributes::set_words;
 use crate::checks::{LAST, is_dir, lease_refusal, refuse_if};
-use crate::claims::{
-    claim_unresolved, cuts, name_of, name_refusal, open_fault, opentype_asks, owner_of, touches,
-};
+use crate::claims::{cuts, name_of, name_refusal, open_fault, opentype_asks, owner_of, touches};
+use crate::closed::count_others;
+use crate::seqids::{ROWS_LIMIT, Turn};
 use crate::tables::Tables;
 use nm_rules::{
-    ChangeInfo, Claim, FileRow, Instance, Memory, OpStatus, OpenArgs, OpenDelegation, OpenOk,
+    Call, ChangeInfo, Claim, FileRow, Instance, Memory, OpStatus, OpenArgs, OpenDelegation, OpenOk,
     OpenType, Opened, Owner, Reply, ReplyValue, StateId, Verdict, Words,
 };
 use nm_shares::seqid_after;
+
+// A number and one more, where there is one.
+fn with_one(count: usize, more: bool) -> usize
+    requires { count ≤ 2 ^ 63 }
+    ensures { result ≡ count + one_if more }
+{
+    if more { count + 1 } else { count }
+}
+
+// 4 says that locks follow POSIX, and 2 that the owner has to confirm.
+fn open_flags(confirmed: bool) -> u32
+    ensures { result ≡ open_flags confirmed }
+{
+    if confirmed { 4 } else { 6 }
+}
 
 impl Tables {
     /// The file that an OPEN names: by its name in the current directory, or the current file itself.
@@ -104,6 +123,43 @@ impl Tables {
         }
     }
 
+    // Whether an OPEN would leave more rows than there may be. Its owner's and its open's may be new, and the owner's closed
+    // opens go.
+    fn fills_rows(&self, owner: &Owner, file: u64) -> bool
+        ensures { result ≡ nat_lt rows_limit (rows_with_open self.now owner.now file) }
+    {
+        let owners = self.owners.rows().len();
+        let opens = self.shares.rows().len();
+        let owner_is_new = self.owners.row_of(owner).is_none();
+        let open_is_new = self.shares.open_of(owner, file).is_none();
+        let closed = count_others(&self.closed, owner);
+        ROWS_LIMIT
+            < with_one(owners, owner_is_new)
+                .saturating_add(with_one(opens, open_is_new))
+                .saturating_add(closed)
+    }
+
+    // The counter that an OPEN would draw, and the rows that it would leave.
+    fn rows_stop(
+        &self,
+        party: Instance,
+        owner: &Owner,
+        file: u64,
+        args: &OpenArgs,
+    ) -> Option<OpStatus>
+        requires { owner.now ≡ opener party args.now }
+        ensures { result ≡ option_or (refuse_if (draws_past_end self.now party file args.now) Resource) (refuse_if (nat_lt rows_limit (rows_with_open self.now (opener party args.now) (file_to_open self.now file args.now))) Resource) }
+    {
+        refuse_if(
+            self.draws_past_end(party, owner, file, args),
+            OpStatus::Resource,
+        )
+        .or(refuse_if(
+            self.fills_rows(owner, self.file_to_open(file, args)),
+            OpStatus::Resource,
+        ))
+    }
+
     // The limits that an OPEN meets.
     #[tactic(auto, unfolding(nm_rules::specs::Opens::open_limit))]
     fn open_limit(
@@ -117,13 +173,10 @@ impl Tables {
         ensures { result ≡ open_limit self.now party file args.now }
     {
         self.tree_limit(self.target(file, &args.claim), &args.opentype)
-            .or(refuse_if(
-                self.draws_past_end(party, owner, file, args),
-                OpStatus::Resource,
-            ))
+            .or(self.rows_stop(party, owner, file, args))
     }
 
-    // The first class that refuses an OPEN.
+    // The first class behind the seqid that refuses an OPEN.
     #[tactic(auto, unfolding(nm_rules::specs::Opens::open_checks))]
     fn open_stop(
         &self,
@@ -134,11 +187,8 @@ impl Tables {
         verdict: Verdict,
     ) -> Option<OpStatus>
         requires { owner.now ≡ opener party args.now }
-        ensures { refusal result ≡ first (open_checks self.now (Some party) file args.now verdict) }
+        ensures { result ≡ behind_seqid (open_checks self.now (Some party) file args.now verdict) }
     {
-        if let Some(status) = claim_unresolved(&args.claim) {
-            return Some(status);
-        }
         if let Some(status) = lease_refusal(verdict) {
             return Some(status);
         }
@@ -224,7 +274,7 @@ impl Tables {
         let ok = OpenOk {
             stateid: self.opened_stateid(party, owner, file, args),
             cinfo: self.open_change(file, touches(target, &args.opentype)),
-            rflags: 4,
+            rflags: open_flags(self.owners.is_confirmed(owner)),
             attrset: self.open_set(target, &args.opentype)?,
             delegation: OpenDelegation::None,
         };
@@ -269,48 +319,85 @@ impl Tables {
         Ok(self.take(owner, opened, args)?)
     }
 
-    /// What an OPEN is answered.
-    #[tactic(auto, using(nm_rules::proofs::Legal::open_goes))]
-    pub fn open_answer(
+    // What an OPEN whose turn it is is answered.
+    #[tactic(auto, using(crate::proofs::TurnLemmas::open_passes))]
+    fn open_reply(
         &self,
-        caller: Option<Instance>,
-        file: u64,
+        party: Instance,
+        owner: &Owner,
+        call: &Call,
         args: &OpenArgs,
         verdict: Verdict,
     ) -> Result<Reply, Memory>
-        ensures { IfOk result (λ r. r ≡ answer_to self.now (AskedEvent (record { caller = caller; file = file; deed = OpenDeed args.now }) verdict)) }
+        requires owner { owner.now ≡ opener party args.now }
+        requires passes { Passes (open_checks self.now (Some party) call.now.file args.now verdict) }
+        ensures { IfOk result (λ r. r ≡ reply_behind self.now (record { caller = Some party; file = call.now.file; deed = OpenDeed args.now }) verdict) }
     {
-        let Some(party) = caller else {
-            return Ok(self.reply(OpStatus::StaleClientId, ReplyValue::Open(None)));
-        };
-        let owner = owner_of(party, args)?;
-        if let Some(status) = self.open_stop(party, &owner, file, args, verdict) {
+        if let Some(status) = self.open_stop(party, owner, call.file, args, verdict) {
             return Ok(self.reply(status, ReplyValue::Open(None)));
         }
-        let opened = self.opened(party, &owner, file, args)?;
+        let opened = self.opened(party, owner, call.file, args)?;
         Ok(self.reply(OpStatus::Nfs4Ok, ReplyValue::Open(Some(opened))))
     }
 
-    /// Answers an OPEN, and carries it out where nothing stops it.
-    #[tactic(auto, using(nm_rules::proofs::Legal::open_goes))]
-    pub fn open(
+    // What an OPEN whose turn it is does.
+    #[tactic(auto, using(crate::proofs::TurnLemmas::open_passes))]
+    fn open_in_turn(
         &mut self,
-        caller: Option<Instance>,
-        file: u64,
+        party: Instance,
+        owner: &Owner,
+        call: &Call,
         args: &OpenArgs,
         verdict: Verdict,
     ) -> Result<Reply, Memory>
-        ensures { IfOk result (λ r. Applied self.old (AskedEvent (record { caller = caller; file = file; deed = OpenDeed args.now }) verdict) r self.new) }
+        requires owner { owner.now ≡ opener party args.now }
+        requires passes { Passes (open_checks self.old (Some party) call.now.file args.now verdict) }
+        ensures { IfOk result (λ r. Went self.old (record { caller = Some party; file = call.now.file; deed = OpenDeed args.now }) verdict r None self.new) }
     {
-        let Some(party) = caller else {
+        if let Some(status) = self.open_stop(party, owner, call.file, args, verdict) {
+            return Ok(self.reply(status, ReplyValue::Open(None)));
+        }
+        let opened = self.opened(party, owner, call.file, args)?;
+        self.open_file(party, owner, call.file, args)?;
+        Ok(self.reply(OpStatus::Nfs4Ok, ReplyValue::Open(Some(opened))))
+    }
+
+    /// What an OPEN is answered.
+    pub fn open_answer(
+        &self,
+        call: &Call,
+        args: &OpenArgs,
+        verdict: Verdict,
+    ) -> Result<Reply, Memory>
+        requires { call.now.deed ≡ OpenDeed args.now }
+        ensures { IfOk result (λ r. r ≡ answer_to self.now (AskedEvent call.now verdict)) }
+    {
+        let Some(party) = call.caller else {
             return Ok(self.reply(OpStatus::StaleClientId, ReplyValue::Open(None)));
         };
         let owner = owner_of(party, args)?;
-        if let Some(status) = self.open_stop(party, &owner, file, args, verdict) {
-            return Ok(self.reply(status, ReplyValue::Open(None)));
+        match self.turn_to_open(party, &owner, call, args)? {
+            Turn::Answered(reply) => Ok(reply),
+            Turn::Of(_) => Ok(self.open_reply(party, &owner, call, args, verdict)?),
         }
-        let opened = self.opened(party, &owner, file, args)?;
-        self.open_file(party, &owner, file, args)?;
-        Ok(self.reply(OpStatus::Nfs4Ok, ReplyValue::Open(Some(opened))))
+    }
+
+    /// Answers an OPEN, and carries it out where nothing stops it.
+    pub fn open(&mut self, call: &Call, args: &OpenArgs, verdict: Verdict) -> Result<Reply, Memory>
+        requires { call.now.deed ≡ OpenDeed args.now }
+        ensures { IfOk result (λ r. Applied self.old (AskedEvent call.now verdict) r self.new) }
+    {
+        let Some(party) = call.caller else {
+            return Ok(self.reply(OpStatus::StaleClientId, ReplyValue::Open(None)));
+        };
+        let owner = owner_of(party, args)?;
+        match self.turn_to_open(party, &owner, call, args)? {
+            Turn::Answered(reply) => Ok(reply),
+            Turn::Of(_) => {
+                let reply = self.open_in_turn(party, &owner, call, args, verdict)?;
+                self.note(&owner, call, &reply, None)?;
+                Ok(reply)
+            }
+        }
     }
 }

@@ -31,7 +31,7 @@ fn attributes_stop(asks: Asked) -> Option<OpStatus>
 }
 
 impl Tables {
-    // A stateid that a server made has to stand for a live open.
+    // A stateid that a server made has to stand for an open.
     #[tactic(auto, unfolding(nm_rules::specs::Data::unknown_stop))]
     fn unknown_stop(&self, stateid: StateRef) -> Option<OpStatus>
         ensures { result ≡ unknown_stop self.now stateid }
@@ -40,7 +40,7 @@ impl Tables {
             StateRef::Zeros => None,
             StateRef::Ones => None,
             StateRef::Named(_) => {
-                refuse_if(self.open_named(stateid).is_none(), OpStatus::BadStateId)
+                refuse_if(self.resolved(stateid).is_none(), OpStatus::BadStateId)
             }
         }
     }

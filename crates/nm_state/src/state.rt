@@ -1,18 +1,18 @@
 //! The state of one file system.
-ghost use Rattle.std.specs.Prelude.{◌≡◌, ◌≤◌, [], false, ℕ, Bool, IfOk, length};
+ghost use Rattle.std.specs.Prelude.{◌≡◌, ◌≤◌, ◌+◌, [], false, ℕ, Bool, IfOk, length};
 ghost use Rattle.std.specs.Vec.{vec_capacity};
 ghost use Rattle.nm_rules.specs.Past.{Past};
 ghost use Rattle.nm_rules.specs.Seen.{seen};
 ghost use Rattle.nm_rules.specs.Sound.{IsSound};
 ghost use Rattle.nm_rules.specs.Answer.{answer, add};
 ghost use Rattle.nm_rules.specs.Held.{held_table};
-ghost use Rattle.nm_rules.specs.Holders.{holders};
-ghost use Rattle.nm_state.specs.State.{fresh, Applies, Answers};
+ghost use Rattle.nm_rules.specs.Holders.{has_row, holders};
+ghost use Rattle.nm_state.specs.State.{fresh, ended, holder_of, Applies, Answers};
 
-use crate::holders::gather;
+use crate::holders::{gather, has_open, has_owner};
 use crate::shown::show_opens;
 use crate::tables::Tables;
-use nm_rules::{Event, FsNum, HeldTable, Instance, Memory, Reply};
+use nm_rules::{Event, FsNum, HeldTable, Instance, Memory, OpStatus, Reply, StateId, StateRef};
 use std::alloc::Global;
 use std::marker::Model;
 
@@ -119,17 +119,17 @@ impl FsState {
             return Err(Memory);
         }
         let mut list = Vec::new(self.alloc);
-        gather(self.tables.opens(), &mut list)?;
+        gather(self.tables.opens(), self.tables.owners(), &mut list)?;
         Ok(list)
     }
 
-    /// How many rows there are. There are no more holders than that.
+    /// How many opens and owners there are. There are no more holders than that.
     #[tactic(auto, using(nm_rules::proofs::HolderLaws::holders_fit))]
     pub fn rows(&self) -> usize
-        ensures value { result ≡ length self.now.seen.opens }
+        ensures value { result ≡ length self.now.seen.opens + length self.now.seen.owners }
         ensures holders { length (holders self.now.seen) ≤ result }
     {
-        self.tables.opens().len()
+        self.tables.opens().len() + self.tables.owners().len()
     }
 
     /// The holders, in an empty list that has room for them: it takes no memory, and is there for a spent state too.
@@ -139,11 +139,36 @@ impl FsState {
         ensures value { result.items ≡ holders self.now.seen }
     {
         let mut list = room;
-        match gather(self.tables.opens(), &mut list) {
+        match gather(self.tables.opens(), self.tables.owners(), &mut list) {
             Ok(()) => list,
             // There is room for them.
             Err(Memory) => unreachable!(),
         }
+    }
+
+    /// The instance for whose owner a stateid stands here. `BAD_STATEID` exactly where it isn't resolvable.
+    #[tactic(auto, unfolding(crate::specs::State::holder_of))]
+    pub fn holder_of(&self, state: StateId) -> Result<Instance, OpStatus>
+        ensures { result ≡ holder_of self.now.seen state }
+    {
+        match self.tables.resolved(StateRef::Named(state)) {
+            None => Err(OpStatus::BadStateId),
+            Some(row) => Ok(row.owner.instance),
+        }
+    }
+
+    /// Whether an owner of the instance is known, or an open of it is live.
+    pub fn has(&self, instance: &Instance) -> bool
+        ensures { result ≡ has_row instance.now self.now.seen }
+    {
+        has_open(self.tables.opens(), instance) || has_owner(self.tables.owners(), instance)
+    }
+
+    /// Carries out the end of an instance: it takes no memory, and is there for a spent state too.
+    pub fn end(&mut self, instance: &Instance)
+        ensures { self.new ≡ ended self.old instance.now }
+    {
+        self.tables.end(instance);
     }
 
     /// The same state once more.

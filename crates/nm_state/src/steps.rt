@@ -2,16 +2,16 @@
 use crate::FsState;
 use nm_rules::{
     AccessArgs, Bytes, Call, Claim, CloseArgs, CommitArgs, CreateArgs, CreateType, Deed, Event,
-    Fattr, FsNum, GetAttrArgs, Instance, Items, LookupArgs, OpStatus, OpenArgs, OpenType,
-    Principal, ReadArgs, ReadDirArgs, RemoveArgs, Reply, ReplyValue, SetAttrArgs, Stable, StateId,
-    StateRef, Verdict, WriteArgs,
+    Fattr, FsNum, GetAttrArgs, Instance, Items, LookupArgs, OpStatus, OpenArgs, OpenConfirmArgs,
+    OpenDowngradeArgs, OpenType, Principal, ReadArgs, ReadDirArgs, RemoveArgs, Reply, ReplyValue,
+    SetAttrArgs, Stable, StateId, StateRef, Verdict, WriteArgs,
 };
 use std::alloc::Global;
 use std::test::Fail;
 
 /// Whether an OPEN makes its file.
 #[derive(Clone, Copy)]
-pub enum How {
+pub(crate) enum How {
     NoCreate,
     Unchecked,
     /// Unchecked, with a size.
@@ -22,11 +22,15 @@ pub enum How {
 
 /// What is asked.
 #[derive(Clone, Copy)]
-pub enum What<'a> {
-    /// By the owner `o`: a name, how, access and deny.
-    Open(&'a [u8], How, u32, u32),
-    /// Of the stateid with that seqid and that counter.
-    Close(u32, u64),
+pub(crate) enum What<'a> {
+    /// By the owner `o`: its seqid, a name, how, access and deny.
+    Open(u32, &'a [u8], How, u32, u32),
+    /// The owner's seqid, and the stateid with that seqid and that counter.
+    Confirm(u32, u32, u64),
+    /// The same, and access and deny.
+    Downgrade(u32, u32, u64, u32, u32),
+    /// The owner's seqid, and the stateid with that seqid and that counter.
+    Close(u32, u32, u64),
     /// A directory of mode 0700.
     MakeDir(&'a [u8]),
     Remove(&'a [u8]),
@@ -48,19 +52,21 @@ pub enum What<'a> {
 
 /// What happens.
 #[derive(Clone, Copy)]
-pub enum Step<'a> {
+pub(crate) enum Step<'a> {
     /// A client asks, with that current file.
     Ask(u8, u64, What<'a>),
+    /// The same, where a file system of the client has moved away.
+    AskMoved(u8, u64, What<'a>),
     End(u8),
 }
 
 /// The first run of a client.
-pub fn client(letter: u8) -> Result<Instance, Fail> {
+pub(crate) fn client(letter: u8) -> Result<Instance, Fail> {
     start_of(letter, 7)
 }
 
 /// The run of a client with that verifier.
-pub fn start_of(letter: u8, verifier: u64) -> Result<Instance, Fail> {
+pub(crate) fn start_of(letter: u8, verifier: u64) -> Result<Instance, Fail> {
     let principal = Principal { flavor: 1, uid: 0 };
     Ok(
         Instance::make(&[letter], verifier, principal)
@@ -70,7 +76,7 @@ pub fn start_of(letter: u8, verifier: u64) -> Result<Instance, Fail> {
 }
 
 /// The stateid of that counter in the file system.
-pub fn stateid(seqid: u32, counter: u64) -> StateId {
+pub(crate) fn stateid(seqid: u32, counter: u64) -> StateId {
     StateId {
         seqid,
         fs: 0,
@@ -78,14 +84,13 @@ pub fn stateid(seqid: u32, counter: u64) -> StateId {
     }
 }
 
-/// An OPEN in the root.
-pub fn open(letter: u8, name: &[u8], how: How, access: u32, deny: u32) -> Step<'_> {
-    Step::Ask(letter, 1, What::Open(name, how, access, deny))
-}
-
-/// A CLOSE.
-pub fn close(letter: u8, file: u64, seqid: u32, counter: u64) -> Step<'static> {
-    Step::Ask(letter, file, What::Close(seqid, counter))
+/// An OPEN in the root that makes its file.
+pub(crate) fn open(letter: u8, seqid: u32, name: &[u8], access: u32, deny: u32) -> Step<'_> {
+    Step::Ask(
+        letter,
+        1,
+        What::Open(seqid, name, How::Unchecked, access, deny),
+    )
 }
 
 fn fattr(alloc: Global, words: &[u32], values: &[u8]) -> Result<Fattr, Fail> {
@@ -105,9 +110,16 @@ fn opentype(alloc: Global, how: How) -> Result<OpenType, Fail> {
     }
 }
 
-fn open_deed(alloc: Global, name: &[u8], how: How, access: u32, deny: u32) -> Result<Deed, Fail> {
+fn open_deed(
+    alloc: Global,
+    seqid: u32,
+    name: &[u8],
+    how: How,
+    access: u32,
+    deny: u32,
+) -> Result<Deed, Fail> {
     Ok(Deed::Open(OpenArgs {
-        seqid: 1,
+        seqid,
         access,
         deny,
         owner: Bytes::from_slice(alloc, b"o")?,
@@ -126,11 +138,9 @@ fn make_dir(alloc: Global, name: &[u8]) -> Result<Deed, Fail> {
 
 fn deed(alloc: Global, what: What<'_>) -> Result<Deed, Fail> {
     match what {
-        What::Open(name, how, access, deny) => open_deed(alloc, name, how, access, deny),
-        What::Close(seqid, counter) => Ok(Deed::Close(CloseArgs {
-            seqid: 2,
-            stateid: StateRef::Named(stateid(seqid, counter)),
-        })),
+        What::Open(seqid, name, how, access, deny) => {
+            open_deed(alloc, seqid, name, how, access, deny)
+        }
         What::MakeDir(name) => make_dir(alloc, name),
         What::Remove(name) => Ok(Deed::Remove(RemoveArgs {
             name: Bytes::from_slice(alloc, name)?,
@@ -159,12 +169,28 @@ fn data_deed(alloc: Global, what: What<'_>) -> Result<Deed, Fail> {
             stateid: StateRef::Zeros,
             attributes: fattr(alloc, words, values)?,
         })),
-        _ => Ok(reading(alloc, what)),
+        _ => Ok(plain_deed(alloc, what)),
     }
 }
 
-fn reading(alloc: Global, what: What<'_>) -> Deed {
+fn plain_deed(alloc: Global, what: What<'_>) -> Deed {
     match what {
+        What::Confirm(seqid, its, counter) => Deed::OpenConfirm(OpenConfirmArgs {
+            stateid: StateRef::Named(stateid(its, counter)),
+            seqid,
+        }),
+        What::Downgrade(seqid, its, counter, access, deny) => {
+            Deed::OpenDowngrade(OpenDowngradeArgs {
+                stateid: StateRef::Named(stateid(its, counter)),
+                seqid,
+                access,
+                deny,
+            })
+        }
+        What::Close(seqid, its, counter) => Deed::Close(CloseArgs {
+            seqid,
+            stateid: StateRef::Named(stateid(its, counter)),
+        }),
         What::Read(stateid, offset, count) => Deed::Read(ReadArgs {
             stateid,
             offset,
@@ -184,23 +210,30 @@ fn reading(alloc: Global, what: What<'_>) -> Deed {
     }
 }
 
+fn call(alloc: Global, letter: u8, file: u64, what: What<'_>) -> Result<Call, Fail> {
+    Ok(Call {
+        caller: Some(client(letter)?),
+        file,
+        deed: deed(alloc, what)?,
+    })
+}
+
 /// The event.
-pub fn event(alloc: Global, step: Step<'_>) -> Result<Event, Fail> {
+pub(crate) fn event(alloc: Global, step: Step<'_>) -> Result<Event, Fail> {
     match step {
         Step::End(letter) => Ok(Event::Ended(client(letter)?)),
         Step::Ask(letter, file, what) => {
-            let call = Call {
-                caller: Some(client(letter)?),
-                file,
-                deed: deed(alloc, what)?,
-            };
-            Ok(Event::Asked(call, Verdict::Pass))
+            Ok(Event::Asked(call(alloc, letter, file, what)?, Verdict::Pass))
         }
+        Step::AskMoved(letter, file, what) => Ok(Event::Asked(
+            call(alloc, letter, file, what)?,
+            Verdict::LeaseMoved,
+        )),
     }
 }
 
 /// A file system, number 0, with no file but the root.
-pub fn no_files(alloc: Global) -> Result<FsState, Fail> {
+pub(crate) fn no_files(alloc: Global) -> Result<FsState, Fail> {
     let fs = FsNum::new(0).ok_or("0 is a file system")?;
     Ok(FsState::new(alloc, fs, false)?)
 }
@@ -217,7 +250,11 @@ fn reply(state: &mut FsState, event: &Event) -> Result<Reply, Fail> {
 }
 
 /// Carries these out.
-pub fn go(alloc: Global, state: &mut FsState, steps: &[Step<'_>]) -> Result<Vec<Reply>, Fail> {
+pub(crate) fn go(
+    alloc: Global,
+    state: &mut FsState,
+    steps: &[Step<'_>],
+) -> Result<Vec<Reply>, Fail> {
     let mut replies = Vec::new(alloc);
     for step in steps {
         let event = event(alloc, *step)?;
@@ -227,10 +264,10 @@ pub fn go(alloc: Global, state: &mut FsState, steps: &[Step<'_>]) -> Result<Vec<
 }
 
 /// A step, and the status that it is to have.
-pub type Row = (Step<'static>, OpStatus);
+pub(crate) type Row = (Step<'static>, OpStatus);
 
 /// The first of these, carried out one after the other, whose status isn't the wanted one.
-pub fn first_other(
+pub(crate) fn first_other(
     alloc: Global,
     state: &mut FsState,
     rows: &[Row],
@@ -247,13 +284,16 @@ pub fn first_other(
 }
 
 /// The same, on a file system that has no file before.
-pub fn first_other_of(alloc: Global, rows: &[Row]) -> Result<Option<(usize, OpStatus)>, Fail> {
+pub(crate) fn first_other_of(
+    alloc: Global,
+    rows: &[Row],
+) -> Result<Option<(usize, OpStatus)>, Fail> {
     let mut state = no_files(alloc)?;
     first_other(alloc, &mut state, rows)
 }
 
 /// The value of the last of these, on a file system that has no file before.
-pub fn last_value(alloc: Global, steps: &[Step<'_>]) -> Result<ReplyValue, Fail> {
+pub(crate) fn last_value(alloc: Global, steps: &[Step<'_>]) -> Result<ReplyValue, Fail> {
     let mut state = no_files(alloc)?;
     match go(alloc, &mut state, steps)?.pop() {
         Some(reply) => Ok(reply.value),

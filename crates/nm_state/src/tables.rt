@@ -1,12 +1,14 @@
-//! The tables of a file system: its files and its opens, and what each event is answered and leaves.
+//! The tables of a file system: its files, its opens and its owners, and what each event is answered and leaves.
 ghost use Rattle.std.specs.Prelude.{◌≡◌, IfOk};
 ghost use Rattle.nm_rules.specs.Seen.{empty};
 ghost use Rattle.nm_rules.specs.declared.calls.Event.TheVariants.{Asked};
 ghost use Rattle.nm_rules.specs.Answer.{answer_to, reply_with};
 ghost use Rattle.nm_state.specs.Opening.{Applied, after_end};
 
+use crate::closed::{copy_rows, drop_of};
+use nm_owners::Owners;
 use nm_rules::{
-    Call, Deed, Event, FileRow, FsNum, Instance, Items, Memory, OpStatus, OpenRow, Reply,
+    Call, Deed, Event, FileRow, FsNum, Instance, Items, Memory, OpStatus, OpenRow, OwnerRow, Reply,
     ReplyValue, Verdict,
 };
 use nm_shares::Shares;
@@ -22,6 +24,9 @@ pub struct Tables {
     pub(crate) grants: bool,
     pub(crate) tree: Tree,
     pub(crate) shares: Shares,
+    pub(crate) owners: Owners,
+    // The opens whose CLOSE is their owner's kept call, as they were closed.
+    pub(crate) closed: Vec<OpenRow>,
 }
 
 impl Model for Tables {
@@ -34,12 +39,14 @@ impl Model for Tables {
       grants = f.grants;
       tree = f.tree;
       opens = f.shares.table;
+      owners = f.owners.table;
+      closed = f.closed.items;
       last = f.shares.last;
     } };
 }
 
 impl Tables {
-    /// A file system with no file but the root, and no opens.
+    /// A file system with no file but the root, no opens and no owners.
     pub fn new(alloc: Global, fs: FsNum, grants: bool) -> Result<Tables, Memory>
         ensures { IfOk result (λ tables. tables ≡ empty fs grants) }
     {
@@ -49,6 +56,8 @@ impl Tables {
             grants,
             tree: Tree::new(alloc)?,
             shares: Shares::new(alloc, fs, grants),
+            owners: Owners::new(alloc),
+            closed: Vec::new(alloc),
         })
     }
 
@@ -66,6 +75,13 @@ impl Tables {
         self.shares.rows()
     }
 
+    /// What is kept of the owners that are known.
+    pub fn owners(&self) -> &[OwnerRow]
+        ensures { result.now ≡ self.now.owners }
+    {
+        self.owners.rows()
+    }
+
     /// The same tables once more.
     pub fn copy(&self) -> Result<Tables, Memory>
         ensures { IfOk result (λ tables. tables ≡ self.now) }
@@ -76,6 +92,8 @@ impl Tables {
             grants: self.grants,
             tree: self.tree.copy()?,
             shares: self.shares.copy()?,
+            owners: self.owners.copy()?,
+            closed: copy_rows(self.alloc, &self.closed)?,
         })
     }
 
@@ -108,13 +126,15 @@ impl Tables {
         let (caller, file) = (call.caller, call.file);
         match &call.deed {
             Deed::Access(args) => Ok(self.access_answer(caller, file, args, verdict)?),
-            Deed::Close(args) => Ok(self.close_answer(caller, file, args, verdict)),
+            Deed::Close(args) => Ok(self.close_answer(call, args, verdict)?),
             Deed::Commit(args) => Ok(self.commit_answer(caller, file, args, verdict)?),
             Deed::Create(args) => Ok(self.create_answer(caller, file, args, verdict)?),
             Deed::GetAttr(args) => Ok(self.getattr_answer(caller, file, args, verdict)?),
             Deed::Lookup(args) => Ok(self.lookup_answer(caller, file, args, verdict)?),
             Deed::LookupP => Ok(self.lookupp_answer(caller, file, verdict)?),
-            Deed::Open(args) => Ok(self.open_answer(caller, file, args, verdict)?),
+            Deed::Open(args) => Ok(self.open_answer(call, args, verdict)?),
+            Deed::OpenConfirm(args) => Ok(self.confirm_answer(call, args, verdict)?),
+            Deed::OpenDowngrade(args) => Ok(self.downgrade_answer(call, args, verdict)?),
             Deed::Read(args) => Ok(self.read_answer(caller, file, args, verdict)?),
             Deed::ReadDir(args) => Ok(self.readdir_answer(caller, file, args, verdict)?),
             Deed::Remove(args) => Ok(self.remove_answer(caller, file, args, verdict)?),
@@ -130,13 +150,15 @@ impl Tables {
         let (caller, file) = (call.caller, call.file);
         match &call.deed {
             Deed::Access(args) => Ok(self.access_answer(caller, file, args, verdict)?),
-            Deed::Close(args) => Ok(self.close(caller, file, args, verdict)),
+            Deed::Close(args) => Ok(self.close(call, args, verdict)?),
             Deed::Commit(args) => Ok(self.commit_answer(caller, file, args, verdict)?),
             Deed::Create(args) => Ok(self.create(caller, file, args, verdict)?),
             Deed::GetAttr(args) => Ok(self.getattr_answer(caller, file, args, verdict)?),
             Deed::Lookup(args) => Ok(self.lookup_answer(caller, file, args, verdict)?),
             Deed::LookupP => Ok(self.lookupp_answer(caller, file, verdict)?),
-            Deed::Open(args) => Ok(self.open(caller, file, args, verdict)?),
+            Deed::Open(args) => Ok(self.open(call, args, verdict)?),
+            Deed::OpenConfirm(args) => Ok(self.confirm(call, args, verdict)?),
+            Deed::OpenDowngrade(args) => Ok(self.downgrade(call, args, verdict)?),
             Deed::Read(args) => Ok(self.read_answer(caller, file, args, verdict)?),
             Deed::ReadDir(args) => Ok(self.readdir_answer(caller, file, args, verdict)?),
             Deed::Remove(args) => Ok(self.remove(caller, file, args, verdict)?),
@@ -145,12 +167,14 @@ impl Tables {
         }
     }
 
-    // All that an instance holds goes.
-    #[tactic(auto, unfolding(crate::specs::Opening::after_end))]
-    fn end(&mut self, instance: &Instance)
+    /// All that an instance holds goes, and all that is kept of its owners.
+    #[tactic(auto, unfolding(crate::specs::Opening::after_end, nm_rules::specs::Seqids::owners_after, nm_rules::specs::Seqids::closed_after))]
+    pub fn end(&mut self, instance: &Instance)
         ensures { self.new ≡ after_end self.old instance.now }
     {
         self.shares.drop_client(instance);
+        self.owners.drop_client(instance);
+        drop_of(&mut self.closed, instance);
     }
 
     /// Answers an event, and changes the tables as the answer says. After want of memory nothing is promised of them.

@@ -1,30 +1,30 @@
-//! Opens on one file system, with expected answers from RFC 7530, 9.9, 16.2 and 16.16.
+//! Opens on one file system, with expected answers from RFC 7530, 9.1.7, 9.9, 16.2, 16.16, 16.18 and 16.19.
 use crate::steps::{
-    How, Row, Step, What, client, close, first_other_of, go, no_files, open, stateid,
+    How, Row, Step, What, client, first_other_of, go, last_value, no_files, open, stateid,
 };
 use nm_rules::{
-    Bytes, Call, Claim, Deed, Event, HeldKind, HeldTable, Instance, OpStatus, OpenArgs, OpenType,
-    StateId, StateRef, Verdict,
+    Bytes, Call, ChangeInfo, Claim, Deed, Event, HeldKind, HeldTable, Instance, Items, OpStatus,
+    OpenArgs, OpenDelegation, OpenOk, OpenType, Opened, ReplyValue, StateId, StateRef, Verdict,
 };
 use std::alloc::Global;
 use std::test::Fail;
 
 const DENIED: [Row; 5] = [
     (
-        Step::Ask(b'A', 1, What::Open(b"f", How::NoCreate, 1, 2)),
+        Step::Ask(b'A', 1, What::Open(1, b"f", How::NoCreate, 1, 2)),
         OpStatus::NoEnt,
     ),
     (
-        Step::Ask(b'A', 1, What::Open(b"f", How::Unchecked, 1, 2)),
+        Step::Ask(b'A', 1, What::Open(2, b"f", How::Unchecked, 1, 2)),
         OpStatus::Nfs4Ok,
     ),
     (
-        Step::Ask(b'B', 1, What::Open(b"f", How::NoCreate, 2, 0)),
+        Step::Ask(b'B', 1, What::Open(1, b"f", How::NoCreate, 2, 0)),
         OpStatus::ShareDenied,
     ),
     (Step::End(b'A'), OpStatus::Nfs4Ok),
     (
-        Step::Ask(b'B', 1, What::Open(b"f", How::NoCreate, 2, 0)),
+        Step::Ask(b'B', 1, What::Open(2, b"f", How::NoCreate, 2, 0)),
         OpStatus::Nfs4Ok,
     ),
 ];
@@ -35,29 +35,64 @@ fn a_deny_stands_until_its_instance_ends(rt: HostRuntime) -> Result<(), Fail> {
     Ok(())
 }
 
-const CLOSES: [Row; 11] = [
+const CLOSES: [Row; 16] = [
     (
-        Step::Ask(b'A', 1, What::Open(b"f", How::Unchecked, 1, 0)),
+        Step::Ask(b'A', 1, What::Open(1, b"f", How::Unchecked, 1, 0)),
         OpStatus::Nfs4Ok,
     ),
     (
-        Step::Ask(b'A', 1, What::Open(b"f", How::Unchecked, 2, 0)),
+        Step::Ask(b'A', 1, What::Open(2, b"f", How::Unchecked, 2, 0)),
         OpStatus::Nfs4Ok,
     ),
     (
-        Step::Ask(b'A', 1, What::Open(b"g", How::Unchecked, 1, 0)),
+        Step::Ask(b'A', 1, What::Open(3, b"g", How::Unchecked, 1, 0)),
+        OpStatus::Nfs4Ok,
+    ),
+    // Its owner isn't confirmed.
+    (
+        Step::Ask(b'A', 16, What::Close(4, 2, 1)),
+        OpStatus::BadStateId,
+    ),
+    (
+        Step::Ask(b'A', 16, What::Confirm(4, 2, 1)),
         OpStatus::Nfs4Ok,
     ),
     // Another client's, one of another file, of none, and of a directory.
-    (Step::Ask(b'B', 16, What::Close(2, 1)), OpStatus::BadStateId),
-    (Step::Ask(b'A', 17, What::Close(2, 1)), OpStatus::BadStateId),
-    (Step::Ask(b'A', 18, What::Close(2, 1)), OpStatus::Stale),
-    (Step::Ask(b'A', 1, What::Close(2, 1)), OpStatus::IsDir),
+    (
+        Step::Ask(b'B', 16, What::Close(5, 3, 1)),
+        OpStatus::BadStateId,
+    ),
+    (
+        Step::Ask(b'A', 17, What::Close(5, 3, 1)),
+        OpStatus::BadStateId,
+    ),
+    (Step::Ask(b'A', 18, What::Close(5, 3, 1)), OpStatus::Stale),
+    (Step::Ask(b'A', 1, What::Close(6, 3, 1)), OpStatus::IsDir),
     // One that is older than the last answer, and one that was never given.
-    (Step::Ask(b'A', 16, What::Close(1, 1)), OpStatus::OldStateId),
-    (Step::Ask(b'A', 16, What::Close(3, 1)), OpStatus::BadStateId),
-    (Step::Ask(b'A', 16, What::Close(2, 1)), OpStatus::Nfs4Ok),
-    (Step::Ask(b'A', 16, What::Close(2, 1)), OpStatus::BadStateId),
+    (
+        Step::Ask(b'A', 16, What::Close(7, 2, 1)),
+        OpStatus::OldStateId,
+    ),
+    (
+        Step::Ask(b'A', 16, What::Close(8, 4, 1)),
+        OpStatus::BadStateId,
+    ),
+    (Step::Ask(b'A', 16, What::Close(8, 3, 1)), OpStatus::Nfs4Ok),
+    // The same again, and then the stateid stands for nothing that is live.
+    (Step::Ask(b'A', 16, What::Close(8, 3, 1)), OpStatus::Nfs4Ok),
+    (
+        Step::Ask(b'A', 16, What::Close(9, 4, 1)),
+        OpStatus::BadStateId,
+    ),
+    // With its owner's next operation it stands for nothing at all.
+    (
+        Step::Ask(b'A', 1, What::Open(9, b"g", How::NoCreate, 1, 0)),
+        OpStatus::Nfs4Ok,
+    ),
+    (
+        Step::Ask(b'A', 16, What::Close(10, 4, 1)),
+        OpStatus::BadStateId,
+    ),
 ];
 
 #[test]
@@ -66,37 +101,210 @@ fn a_close_names_the_open_as_it_stands(rt: HostRuntime) -> Result<(), Fail> {
     Ok(())
 }
 
+// One owner's operations, from the seqid 7 on.
+const TURNS: [Row; 15] = [
+    (
+        Step::Ask(b'A', 1, What::Open(7, b"f", How::Unchecked, 1, 0)),
+        OpStatus::Nfs4Ok,
+    ),
+    (
+        Step::Ask(b'A', 1, What::Open(7, b"f", How::Unchecked, 1, 0)),
+        OpStatus::Nfs4Ok,
+    ),
+    (
+        Step::Ask(b'A', 1, What::Open(7, b"f", How::Unchecked, 3, 0)),
+        OpStatus::BadSeqid,
+    ),
+    (
+        Step::Ask(b'A', 1, What::Open(9, b"f", How::Unchecked, 1, 0)),
+        OpStatus::BadSeqid,
+    ),
+    (
+        Step::Ask(b'A', 16, What::Confirm(8, 1, 1)),
+        OpStatus::Nfs4Ok,
+    ),
+    (
+        Step::Ask(b'A', 16, What::Confirm(8, 1, 1)),
+        OpStatus::Nfs4Ok,
+    ),
+    (
+        Step::Ask(b'A', 16, What::Close(9, 1, 1)),
+        OpStatus::OldStateId,
+    ),
+    (
+        Step::AskMoved(b'A', 1, What::Open(10, b"g", How::Unchecked, 1, 0)),
+        OpStatus::LeaseMoved,
+    ),
+    (
+        Step::Ask(b'A', 1, What::Open(10, b"g", How::Unchecked, 1, 0)),
+        OpStatus::LeaseMoved,
+    ),
+    (
+        Step::Ask(b'A', 1, What::Open(12, b"g", How::Unchecked, 1, 0)),
+        OpStatus::BadSeqid,
+    ),
+    (
+        Step::Ask(b'A', 1, What::Open(11, b"g", How::NoCreate, 1, 0)),
+        OpStatus::NoEnt,
+    ),
+    // An owner that is confirmed isn't confirmed again.
+    (
+        Step::Ask(b'A', 16, What::Confirm(12, 2, 1)),
+        OpStatus::BadStateId,
+    ),
+    // The seqid is judged after the stateid, and before the lease.
+    (
+        Step::AskMoved(b'A', 16, What::Close(13, 9, 9)),
+        OpStatus::BadStateId,
+    ),
+    (
+        Step::AskMoved(b'A', 16, What::Close(13, 2, 1)),
+        OpStatus::BadSeqid,
+    ),
+    (Step::Ask(b'A', 16, What::Close(12, 2, 1)), OpStatus::Nfs4Ok),
+];
+
+#[test]
+fn operations_come_in_turn(rt: HostRuntime) -> Result<(), Fail> {
+    let alloc = rt.alloc();
+    assert_eq!(rt; first_other_of(alloc, &TURNS)?, None);
+    Ok(())
+}
+
+const REPEATED: [Step<'static>; 4] = [
+    Step::Ask(b'A', 1, What::Open(7, b"f", How::Unchecked, 1, 0)),
+    Step::Ask(b'A', 1, What::Open(7, b"f", How::Unchecked, 1, 0)),
+    Step::Ask(b'A', 16, What::Confirm(8, 1, 1)),
+    Step::Ask(b'A', 16, What::Confirm(8, 1, 1)),
+];
+
+// What the first OPEN tells: its owner has to confirm.
+fn first_opened(alloc: Global) -> ReplyValue {
+    ReplyValue::Open(Some(Opened {
+        ok: OpenOk {
+            stateid: stateid(1, 1),
+            cinfo: ChangeInfo {
+                before: 0,
+                after: 1,
+            },
+            rflags: 6,
+            attrset: Items::new(alloc),
+            delegation: OpenDelegation::None,
+        },
+        file: 16,
+    }))
+}
+
+#[test]
+fn a_repeat_gets_the_kept_reply(rt: HostRuntime) -> Result<(), Fail> {
+    let alloc = rt.alloc();
+    let steps = REPEATED.as_slice();
+    assert_eq!(rt;
+        last_value(alloc, steps.split_at(1).0)?,
+        first_opened(alloc)
+    );
+    assert_eq!(rt;
+        last_value(alloc, steps.split_at(2).0)?,
+        first_opened(alloc)
+    );
+    let confirmed = Some(stateid(2, 1));
+    assert_eq!(rt;
+        last_value(alloc, steps.split_at(3).0)?,
+        ReplyValue::OpenConfirm(confirmed)
+    );
+    assert_eq!(rt;
+        last_value(alloc, steps)?,
+        ReplyValue::OpenConfirm(confirmed)
+    );
+    Ok(())
+}
+
+const DOWNGRADES: [Row; 11] = [
+    (
+        Step::Ask(b'A', 1, What::Open(1, b"f", How::Unchecked, 3, 3)),
+        OpStatus::Nfs4Ok,
+    ),
+    (
+        Step::Ask(b'A', 16, What::Confirm(2, 1, 1)),
+        OpStatus::Nfs4Ok,
+    ),
+    (
+        Step::Ask(b'B', 1, What::Open(1, b"f", How::NoCreate, 1, 0)),
+        OpStatus::ShareDenied,
+    ),
+    // None, more than there is, and less.
+    (
+        Step::Ask(b'A', 16, What::Downgrade(3, 2, 1, 0, 0)),
+        OpStatus::Inval,
+    ),
+    (
+        Step::Ask(b'A', 16, What::Downgrade(4, 2, 1, 3, 4)),
+        OpStatus::Inval,
+    ),
+    (
+        Step::Ask(b'A', 16, What::Downgrade(5, 2, 1, 1, 2)),
+        OpStatus::Nfs4Ok,
+    ),
+    (
+        Step::Ask(b'A', 16, What::Downgrade(6, 3, 1, 3, 2)),
+        OpStatus::Inval,
+    ),
+    (
+        Step::Ask(b'B', 1, What::Open(2, b"f", How::NoCreate, 1, 0)),
+        OpStatus::Nfs4Ok,
+    ),
+    (
+        Step::Ask(b'B', 1, What::Open(3, b"f", How::NoCreate, 2, 0)),
+        OpStatus::ShareDenied,
+    ),
+    // Arguments come before the stateid.
+    (
+        Step::Ask(b'A', 16, What::Downgrade(7, 2, 1, 2, 0)),
+        OpStatus::Inval,
+    ),
+    (
+        Step::Ask(b'A', 16, What::Downgrade(8, 2, 1, 1, 0)),
+        OpStatus::OldStateId,
+    ),
+];
+
+#[test]
+fn a_downgrade_leaves_less(rt: HostRuntime) -> Result<(), Fail> {
+    assert_eq!(rt; first_other_of(rt.alloc(), &DOWNGRADES)?, None);
+    Ok(())
+}
+
 const MAKINGS: [Row; 8] = [
     (
-        Step::Ask(b'A', 1, What::Open(b"f", How::Guarded, 1, 0)),
+        Step::Ask(b'A', 1, What::Open(1, b"f", How::Guarded, 1, 0)),
         OpStatus::Nfs4Ok,
     ),
     (
-        Step::Ask(b'A', 1, What::Open(b"f", How::Guarded, 1, 0)),
+        Step::Ask(b'A', 1, What::Open(2, b"f", How::Guarded, 1, 0)),
         OpStatus::Exist,
     ),
     (
-        Step::Ask(b'A', 1, What::Open(b"f", How::NoCreate, 1, 0)),
+        Step::Ask(b'A', 1, What::Open(3, b"f", How::NoCreate, 1, 0)),
         OpStatus::Nfs4Ok,
     ),
     (
-        Step::Ask(b'A', 1, What::Open(b"f", How::Exclusive(5), 1, 0)),
+        Step::Ask(b'A', 1, What::Open(4, b"f", How::Exclusive(5), 1, 0)),
         OpStatus::Exist,
     ),
     (
-        Step::Ask(b'A', 1, What::Open(b"g", How::Exclusive(5), 1, 0)),
+        Step::Ask(b'A', 1, What::Open(5, b"g", How::Exclusive(5), 1, 0)),
         OpStatus::Nfs4Ok,
     ),
     (
-        Step::Ask(b'A', 1, What::Open(b"g", How::Exclusive(5), 1, 0)),
+        Step::Ask(b'A', 1, What::Open(6, b"g", How::Exclusive(5), 1, 0)),
         OpStatus::Nfs4Ok,
     ),
     (
-        Step::Ask(b'A', 1, What::Open(b"g", How::Exclusive(6), 1, 0)),
+        Step::Ask(b'A', 1, What::Open(7, b"g", How::Exclusive(6), 1, 0)),
         OpStatus::Exist,
     ),
     (
-        Step::Ask(b'A', 1, What::Open(b"g", How::Unchecked, 1, 0)),
+        Step::Ask(b'A', 1, What::Open(8, b"g", How::Unchecked, 1, 0)),
         OpStatus::Nfs4Ok,
     ),
 ];
@@ -110,49 +318,49 @@ fn files_are_made_in_three_modes(rt: HostRuntime) -> Result<(), Fail> {
 
 const FAULTS: [Row; 12] = [
     (
-        Step::Ask(b'A', 1, What::Open(b"f", How::Unchecked, 1, 0)),
+        Step::Ask(b'A', 1, What::Open(1, b"f", How::Unchecked, 1, 0)),
         OpStatus::Nfs4Ok,
     ),
     (Step::Ask(b'A', 1, What::MakeDir(b"d")), OpStatus::Nfs4Ok),
     // What is no directory, or one, comes before what is invalid.
     (
-        Step::Ask(b'A', 16, What::Open(b"x", How::Unchecked, 1, 0)),
+        Step::Ask(b'A', 16, What::Open(2, b"x", How::Unchecked, 1, 0)),
         OpStatus::NotDir,
     ),
     (
-        Step::Ask(b'A', 18, What::Open(b"x", How::Unchecked, 1, 0)),
+        Step::Ask(b'A', 18, What::Open(3, b"x", How::Unchecked, 1, 0)),
         OpStatus::Stale,
     ),
     (
-        Step::Ask(b'A', 1, What::Open(b"d", How::NoCreate, 0, 0)),
+        Step::Ask(b'A', 1, What::Open(4, b"d", How::NoCreate, 0, 0)),
         OpStatus::IsDir,
     ),
     (
-        Step::Ask(b'A', 1, What::Open(b"x", How::NoCreate, 0, 0)),
+        Step::Ask(b'A', 1, What::Open(5, b"x", How::NoCreate, 0, 0)),
         OpStatus::Inval,
     ),
     (
-        Step::Ask(b'A', 1, What::Open(b"x", How::NoCreate, 4, 0)),
+        Step::Ask(b'A', 1, What::Open(6, b"x", How::NoCreate, 4, 0)),
         OpStatus::Inval,
     ),
     (
-        Step::Ask(b'A', 1, What::Open(b"x", How::NoCreate, 1, 4)),
+        Step::Ask(b'A', 1, What::Open(7, b"x", How::NoCreate, 1, 4)),
         OpStatus::Inval,
     ),
     (
-        Step::Ask(b'A', 1, What::Open(b"", How::Unchecked, 1, 0)),
+        Step::Ask(b'A', 1, What::Open(8, b"", How::Unchecked, 1, 0)),
         OpStatus::Inval,
     ),
     (
-        Step::Ask(b'A', 1, What::Open(&[b'x'; 256], How::Unchecked, 1, 0)),
+        Step::Ask(b'A', 1, What::Open(9, &[b'x'; 256], How::Unchecked, 1, 0)),
         OpStatus::NameTooLong,
     ),
     (
-        Step::Ask(b'A', 1, What::Open(b"x/y", How::Unchecked, 1, 0)),
+        Step::Ask(b'A', 1, What::Open(10, b"x/y", How::Unchecked, 1, 0)),
         OpStatus::BadName,
     ),
     (
-        Step::Ask(b'A', 1, What::Open(&[b'x'; 255], How::NoCreate, 1, 0)),
+        Step::Ask(b'A', 1, What::Open(11, &[b'x'; 255], How::NoCreate, 1, 0)),
         OpStatus::NoEnt,
     ),
 ];
@@ -173,7 +381,7 @@ fn claimed(
     verdict: Verdict,
 ) -> Result<OpStatus, Fail> {
     let deed = Deed::Open(OpenArgs {
-        seqid: 1,
+        seqid: 2,
         access: 1,
         deny: 0,
         owner: Bytes::from_slice(alloc, b"o")?,
@@ -182,7 +390,7 @@ fn claimed(
     });
     let asked = Event::Asked(Call { caller, file, deed }, verdict);
     let mut state = no_files(alloc)?;
-    go(alloc, &mut state, &[open(b'A', b"f", How::Unchecked, 1, 0)])?;
+    go(alloc, &mut state, &[open(b'A', 1, b"f", 1, 0)])?;
     Ok(state.answer(&asked)?.status)
 }
 
@@ -226,9 +434,13 @@ fn claims_are_judged_apart(rt: HostRuntime) -> Result<(), Fail> {
 // What a copy shows that was made before this open was closed, if then nothing is left.
 fn shown_by_a_copy(alloc: Global) -> Result<HeldTable, Fail> {
     let mut state = no_files(alloc)?;
-    go(alloc, &mut state, &[open(b'A', b"f", How::Unchecked, 3, 1)])?;
+    go(alloc, &mut state, &[open(b'A', 1, b"f", 3, 1)])?;
     let copy = state.copy()?;
-    go(alloc, &mut state, &[close(b'A', 16, 1, 1)])?;
+    let rest = [
+        Step::Ask(b'A', 16, What::Confirm(2, 1, 1)),
+        Step::Ask(b'A', 16, What::Close(3, 2, 1)),
+    ];
+    go(alloc, &mut state, &rest)?;
     state
         .table()?
         .items()
@@ -253,29 +465,55 @@ fn what_is_held_is_shown_and_copied(rt: HostRuntime) -> Result<(), Fail> {
     Ok(())
 }
 
-// The holders after these, and how many rows there are.
-fn holders(alloc: Global, steps: &[Step<'_>]) -> Result<(Vec<Instance>, usize), Fail> {
+const HELD: [Step<'static>; 5] = [
+    Step::Ask(b'B', 1, What::Open(1, b"f", How::Unchecked, 1, 0)),
+    Step::Ask(b'A', 1, What::Open(1, b"f", How::Unchecked, 1, 0)),
+    Step::Ask(b'B', 1, What::Open(2, b"g", How::Unchecked, 1, 0)),
+    // Its owner is known, and holds nothing.
+    Step::Ask(b'C', 1, What::Open(1, b"x", How::NoCreate, 1, 0)),
+    Step::End(b'B'),
+];
+
+// The holders after so many of these, and how many rows there are.
+fn holders(alloc: Global, count: usize) -> Result<(Vec<Instance>, usize), Fail> {
     let mut state = no_files(alloc)?;
-    go(alloc, &mut state, steps)?;
+    go(alloc, &mut state, HELD.as_slice().split_at(count).0)?;
     Ok((state.holders()?, state.rows()))
 }
 
 #[test]
 fn holders_come_in_order_and_once(rt: HostRuntime) -> Result<(), Fail> {
     let alloc = rt.alloc();
-    let steps = [
-        open(b'B', b"f", How::Unchecked, 1, 0),
-        open(b'A', b"f", How::Unchecked, 1, 0),
-        open(b'B', b"g", How::Unchecked, 1, 0),
-        Step::End(b'B'),
-    ];
-    let (a, b) = (client(b'A')?, client(b'B')?);
-    let (three, rows) = holders(alloc, steps.split_at(3).0)?;
-    assert_eq!(rt; three.as_slice(), [a, b].as_slice());
-    assert_eq!(rt; rows, 3);
+    let (a, b, c) = (client(b'A')?, client(b'B')?, client(b'C')?);
+    let (three, rows) = holders(alloc, 4)?;
+    assert_eq!(rt; three.as_slice(), [a, b, c].as_slice());
+    assert_eq!(rt; rows, 6);
     // With its end an instance is no holder.
-    let (one, rows) = holders(alloc, &steps)?;
-    assert_eq!(rt; one.as_slice(), [a].as_slice());
-    assert_eq!(rt; rows, 1);
+    let (two, rows) = holders(alloc, 5)?;
+    assert_eq!(rt; two.as_slice(), [a, c].as_slice());
+    assert_eq!(rt; rows, 3);
+    Ok(())
+}
+
+// Which of A, B and C have a row after the end of B, and for whom three stateids stand before it.
+fn ended(alloc: Global) -> Result<([bool; 3], [Result<Instance, OpStatus>; 3]), Fail> {
+    let (a, b, c) = (client(b'A')?, client(b'B')?, client(b'C')?);
+    let mut state = no_files(alloc)?;
+    go(alloc, &mut state, HELD.as_slice().split_at(4).0)?;
+    let of = [
+        state.holder_of(stateid(1, 1)),
+        state.holder_of(stateid(9, 2)),
+        state.holder_of(stateid(1, 4)),
+    ];
+    state.end(&b);
+    Ok(([state.has(&a), state.has(&b), state.has(&c)], of))
+}
+
+#[test]
+fn a_stateid_tells_its_holder(rt: HostRuntime) -> Result<(), Fail> {
+    let (a, b) = (client(b'A')?, client(b'B')?);
+    let (has, of) = ended(rt.alloc())?;
+    assert_eq!(rt; has, [true, false, true]);
+    assert_eq!(rt; of, [Ok(b), Ok(a), Err(OpStatus::BadStateId)]);
     Ok(())
 }

@@ -1,17 +1,13 @@
-use Rattle.nm_rules.specs.declared.calls.Call.{Call}
 use Rattle.nm_rules.specs.declared.calls.Deed.TheVariants.{Close}
-use Rattle.nm_state.proofs.OpeningLemmas.{applied_refused, applied_close, close_drops}
+use Rattle.nm_state.proofs.TurnLemmas.{call_is, close_turn, noted_as}
 use Rattle.nm_state.proofs.tables.Tables.close.Goals as goal
 
-pub returns-in-Some : goal.returns-in-Some
-returns-in-Some c =
-    let call : Call = record { caller = c.args.caller; file = c.args.file; deed = Close c.args.args.now } in
-    rw c.reply.ensures (applied_refused c.args.self.now call c.args.verdict c.in-Some.status c.in-Some.ensures)
+pub returns-in-Answered : goal.returns-in-Answered
+returns-in-Answered c =
+    close_turn c.args.self.now c.args.call.now c.args.args.now c.args.verdict _ _ _ c.requires c.resolved.ensures c.in_ok-reply.ensures c.in-Answered.is
 
-pub drop_open-requires : goal.drop_open-requires
-drop_open-requires c = close_drops c.args.self.now c.args.args.now c.closed-id.result c.closed-id.ensures
-
-pub returns : goal.returns
-returns c =
-    rw (c.reply-2.ensures, c.drop_open.ensures)
-    (applied_close c.args.self.now c.args.caller c.args.file c.args.args.now c.args.verdict c.closed-id.result c.in_default.ensures c.closed-id.ensures)
+pub returns-in_ok-note-in-Of : goal.returns-in_ok-note-in-Of
+returns-in_ok-note-in-Of c =
+    noted_as c.args.self.now c.args.call.now _ c.args.verdict _ _ _ _ _ (call_is c.args.call.now (Close c.args.args.now) c.requires)
+    (close_turn c.args.self.now c.args.call.now c.args.args.now c.args.verdict _ _ _ c.requires c.resolved.ensures c.in_ok-reply.ensures c.in-Of.is)
+    c.in_ok-reply-in-Of.ensures c.in_ok-note-in-Of.ensures

@@ -1,25 +1,23 @@
-use Rattle.std.proofs.Common.{None, Some, refl}
-use Rattle.nm_rules.specs.Opens.{open_checks}
-use Rattle.nm_rules.specs.declared.calls.Call.{Call}
 use Rattle.nm_rules.specs.declared.calls.Deed.TheVariants.{Open}
-use Rattle.nm_rules.specs.declared.status.OpStatus.TheVariants.{StaleClientId}
-use Rattle.nm_state.proofs.OpeningLemmas.{applied_refused, applied_open}
+use Rattle.nm_state.proofs.TurnLemmas.{nobody_opens, noted_as, open_is, open_its, open_let_pass, open_turn}
 use Rattle.nm_state.proofs.tables.Tables.open.Goals as goal
 
 pub returns-in_default : goal.returns-in_default
-unfolding open_checks
 returns-in_default c =
-    let call : Call = record { caller = None; file = c.args.file; deed = Open c.args.args.now } in
-    rw (c.reply.ensures, c.in_default.is) (applied_refused c.args.self.now call c.args.verdict StaleClientId refl)
+    rw c.reply.ensures (nobody_opens c.args.self.now c.args.call.now c.args.args.now c.args.verdict c.in_default.is c.requires)
 
-pub returns-in-Some-open_stop : goal.returns-in-Some-open_stop
-returns-in-Some-open_stop c =
-    let call : Call = record { caller = Some c.in-Some.party; file = c.args.file; deed = Open c.args.args.now } in
-    rw (c.reply-in-Some-open_stop.ensures, c.in-Some.is)
-    (applied_refused c.args.self.now call c.args.verdict c.in-Some-open_stop.status c.in-Some-open_stop.ensures)
+pub returns-in-Answered : goal.returns-in-Answered
+returns-in-Answered c =
+    open_turn c.args.self.now c.args.call.now c.in-Some.party c.args.args.now c.args.verdict _ _ c.in-Some.is c.requires c.in_ok-reply.ensures c.in-Answered.is
+
+pub open_in_turn-requires-clause-passes : goal.open_in_turn-requires-clause-passes
+open_in_turn-requires-clause-passes c =
+    open_let_pass c.args.self.now c.args.call.now c.in-Some.party c.args.args.now c.args.verdict _ c.in-Some.is c.requires
+    (open_turn c.args.self.now c.args.call.now c.in-Some.party c.args.args.now c.args.verdict _ _ c.in-Some.is c.requires c.in_ok-reply.ensures c.in-Of.is)
 
 pub returns : goal.returns
 returns c =
-    rw (c.reply-2.ensures, c.in_ok-open_file.ensures.after, c.in-Some.is)
-    (applied_open c.args.self.now c.in-Some.party c.args.file c.args.args.now c.args.verdict c.in_ok-opened.opened
-    c.in_ok-open_file.ensures.rising c.in_default-open_stop.ensures c.in_ok-opened.ensures)
+    noted_as c.args.self.now c.args.call.now _ c.args.verdict c.in_ok-owner.owner _ _ _ _ (open_is c.args.call.now c.in-Some.party (Open c.args.args.now) c.in-Some.is c.requires)
+    (open_its c.args.self.now c.args.call.now c.in-Some.party c.args.args.now c.args.verdict _ c.in_ok-owner.owner c.in-Some.is c.requires c.in_ok-owner.ensures
+    (open_turn c.args.self.now c.args.call.now c.in-Some.party c.args.args.now c.args.verdict _ _ c.in-Some.is c.requires c.in_ok-reply.ensures c.in-Of.is))
+    c.in_ok-reply-in-Of.ensures c.in_ok-note-in-Of.ensures

@@ -1,25 +1,22 @@
-use Rattle.std.proofs.Common.{None, Some, refl}
-use Rattle.nm_rules.specs.Opens.{open_checks}
-use Rattle.nm_rules.specs.declared.calls.Call.{Call}
 use Rattle.nm_rules.specs.declared.calls.Deed.TheVariants.{Open}
-use Rattle.nm_rules.specs.declared.status.OpStatus.TheVariants.{StaleClientId}
-use Rattle.nm_state.proofs.OpeningLemmas.{applied_refused, answered_open}
+use Rattle.nm_state.proofs.TurnLemmas.{nobody_opens, open_is, open_let_pass, open_turn, told_as}
 use Rattle.nm_state.proofs.tables.Tables.open_answer.Goals as goal
 
 pub returns-in_default : goal.returns-in_default
-unfolding open_checks
 returns-in_default c =
-    let call : Call = record { caller = None; file = c.args.file; deed = Open c.args.args.now } in
-    rw (c.reply.ensures, c.in_default.is) (applied_refused c.args.self.now call c.args.verdict StaleClientId refl).answer
+    rw c.reply.ensures (nobody_opens c.args.self.now c.args.call.now c.args.args.now c.args.verdict c.in_default.is c.requires).answer
 
-pub returns-in-Some-open_stop : goal.returns-in-Some-open_stop
-returns-in-Some-open_stop c =
-    let call : Call = record { caller = Some c.in-Some.party; file = c.args.file; deed = Open c.args.args.now } in
-    rw (c.reply-in-Some-open_stop.ensures, c.in-Some.is)
-    (applied_refused c.args.self.now call c.args.verdict c.in-Some-open_stop.status c.in-Some-open_stop.ensures).answer
+pub returns-in-Answered : goal.returns-in-Answered
+returns-in-Answered c =
+    (open_turn c.args.self.now c.args.call.now c.in-Some.party c.args.args.now c.args.verdict _ _ c.in-Some.is c.requires c.in_ok-reply.ensures c.in-Answered.is).answer
+
+pub open_reply-requires-clause-passes : goal.open_reply-requires-clause-passes
+open_reply-requires-clause-passes c =
+    open_let_pass c.args.self.now c.args.call.now c.in-Some.party c.args.args.now c.args.verdict _ c.in-Some.is c.requires
+    (open_turn c.args.self.now c.args.call.now c.in-Some.party c.args.args.now c.args.verdict _ _ c.in-Some.is c.requires c.in_ok-reply.ensures c.in-Of.is)
 
 pub returns : goal.returns
 returns c =
-    rw (c.reply-2.ensures, c.in-Some.is)
-    (answered_open c.args.self.now c.in-Some.party c.args.file c.args.args.now c.args.verdict c.in_ok-opened.opened
-    c.in_default-open_stop.ensures c.in_ok-opened.ensures)
+    told_as c.args.self.now c.args.call.now _ c.args.verdict _ _ (open_is c.args.call.now c.in-Some.party (Open c.args.args.now) c.in-Some.is c.requires)
+    (open_turn c.args.self.now c.args.call.now c.in-Some.party c.args.args.now c.args.verdict _ _ c.in-Some.is c.requires c.in_ok-reply.ensures c.in-Of.is)
+    c.in_ok-open_reply-in-Of.ensures

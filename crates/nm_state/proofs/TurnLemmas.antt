@@ -1,0 +1,368 @@
+-- Whose turn it is, and what an operation leaves whose turn it was.
+use Rattle.std.proofs.Common.{◌≡◌, ℕ, Bool, true, false, cond, Option, Some, None, refl, ap, sym, subst, ◌∙◌}
+use Rattle.std.specs.Prelude.{◌==◌, not, nat_le, option_map}
+use Rattle.std.specs.Option.{option_or}
+use Rattle.nm_rules.specs.Answer.{answer_to, checks, ok_value, refused_value, reply_by, reply_with}
+use Rattle.nm_rules.specs.Checks.{Checks, Stop, behind_seqid, first, refusal}
+use Rattle.nm_rules.specs.Checks.Stop.{Refuse, Repeat}
+use Rattle.nm_rules.specs.Lists.{is_empty}
+use Rattle.nm_rules.specs.Opens.{claim_unresolved, close_checks, confirm_checks, downgrade_checks, open_checks, rows_limit, rows_taken, GoesOpen}
+use Rattle.nm_rules.specs.Parties.{Party}
+use Rattle.nm_rules.specs.Past.{Now, Words, closed_by, deed_words, is_done, judgement, named_by, no_words, noted, opener, owner_named, owner_word, seqid_owner, set_tree, with_owners, words}
+use Rattle.nm_rules.specs.Seen.{Seen, after, after_words, look}
+use Rattle.nm_rules.specs.Seqids.{OwnerWord, advances, closed_after, is_fresh, judged, owner_at, owners_after}
+use Rattle.nm_rules.specs.Seqids.OwnerWord.{Stays}
+use Rattle.nm_rules.specs.Shares.{open_at}
+use Rattle.nm_rules.specs.Stateids.{is_own, judged_stop, owner_stop, owner_stop_at, resolved, unresolved_at}
+use Rattle.nm_rules.specs.declared.args.Claim.{Claim}
+use Rattle.nm_rules.specs.declared.args.Claim.TheVariants.{Null, Previous, DelegateCur, DelegatePrev}
+use Rattle.nm_rules.specs.declared.args.CloseArgs.{CloseArgs}
+use Rattle.nm_rules.specs.declared.args.OpenArgs.{OpenArgs}
+use Rattle.nm_rules.specs.declared.args.OpenConfirmArgs.{OpenConfirmArgs}
+use Rattle.nm_rules.specs.declared.args.OpenDowngradeArgs.{OpenDowngradeArgs}
+use Rattle.nm_rules.specs.declared.calls.Call.{Call}
+use Rattle.nm_rules.specs.declared.calls.Deed.{Deed}
+use Rattle.nm_rules.specs.declared.calls.Deed.TheVariants as deed
+use Rattle.nm_rules.specs.declared.calls.Event.TheVariants.{Asked}
+use Rattle.nm_rules.specs.declared.calls.Owner.{Owner}
+use Rattle.nm_rules.specs.declared.calls.Reply.{Reply}
+use Rattle.nm_rules.specs.declared.calls.ReplyValue.TheVariants as told
+use Rattle.nm_rules.specs.declared.calls.StateRef.{StateRef}
+use Rattle.nm_rules.specs.declared.calls.StateRef.TheVariants.{Zeros, Ones, Named}
+use Rattle.nm_rules.specs.declared.calls.Verdict.{Verdict}
+use Rattle.nm_rules.specs.declared.owners.Judgement.{Judgement}
+use Rattle.nm_rules.specs.declared.owners.Judgement.TheVariants as judged_as
+use Rattle.nm_rules.specs.declared.owners.OwnerRow.{OwnerRow}
+use Rattle.nm_rules.specs.declared.rows.OpenRow.{OpenRow}
+use Rattle.nm_rules.specs.declared.status.OpStatus.{OpStatus}
+use Rattle.nm_rules.specs.declared.status.OpStatus.TheVariants.{BadStateId, Nfs4Ok, StaleClientId}
+use Rattle.nm_rules.proofs.Legal.{SeqidTells, open_goes, repeat_is_old, seqid_tells, words-refused}
+use Rattle.nm_rules.proofs.OwnerLaws.{old-after, same-after}
+use Rattle.nm_state.proofs.OpeningLemmas.{stopped_answer}
+use Rattle.nm_state.specs.Opening.{Applied}
+use Rattle.nm_state.specs.Turns.{IsTurn, Passes, Went, after_noting, note_word, reply_behind, turn_at, turn_by, turn_to_open, turn_unless}
+use Rattle.nm_state.specs.declared.seqids.Turn.{Turn}
+use Rattle.nm_state.specs.declared.seqids.Turn.TheVariants.{Answered, Of}
+
+-- ---- it isn't its turn
+
+-- An owner stays with a status that doesn't advance.
+stays_put : (n : Now) (call : Call) (r : Reply) → advances r.status ≡ false → owner_word n call r ≡ Stays
+unfolding noted
+stays_put n call r stays = by_fresh (is_fresh (judgement n call)) (seqid_owner n call.caller call.deed)
+  where
+    by_fresh : (b : Bool) (o : Option Owner) → cond b (noted n call r o) Stays ≡ Stays
+    by_fresh true None = refl
+    by_fresh true (Some owner) = rw stays refl
+    by_fresh false o = refl
+
+pub applied_before : (s : Seen) (call : Call) (verdict : Verdict) (status : OpStatus) → first (checks s call.caller call.file verdict call.deed) ≡ Some (Refuse status)
+    → advances status ≡ false → Applied s (Asked call verdict) (reply_with status (refused_value call.deed)) s
+applied_before s call verdict status stops stays = record {
+  answer = stopped_answer s call verdict (Some (Refuse status)) stops;
+  tables = sym (ap (after_words s)
+      (words-refused (look s) call verdict status ∙ ap (with_owners no_words) (stays_put (look s) call (reply_with status (refused_value call.deed)) stays))
+      ∙ same-after s);
+}
+
+applied_again : (s : Seen) (call : Call) (verdict : Verdict) (kept : Reply) → first (checks s call.caller call.file verdict call.deed) ≡ Some (Repeat kept)
+    → Applied s (Asked call verdict) kept s
+applied_again s call verdict kept repeats = record {
+  answer = stopped_answer s call verdict (Some (Repeat kept)) repeats;
+  tables = sym (old-after s call verdict kept (repeat_is_old s call verdict kept repeats));
+}
+
+-- the first of the classes, by the first two
+first_unresolved : (c : Checks) (status : OpStatus) → c.unresolved ≡ Some status → first c ≡ Some (Refuse status)
+first_unresolved c status stops = rw stops refl
+
+first_seqid : (c : Checks) (stop : Stop) → c.unresolved ≡ None → c.seqid ≡ Some stop → first c ≡ Some stop
+first_seqid c stop own stops = rw (own, stops) refl
+
+-- ---- whose turn it is
+
+-- an owner's seqid stops an operation by a status that doesn't advance
+abbrev StopStays : Option Stop → Type 0
+StopStays None = Unit {0}
+StopStays (Some (Refuse status)) = advances status ≡ false
+StopStays (Some (Repeat kept)) = Unit {0}
+
+judged_stays : (kept : Reply) (j : Judgement) → StopStays (judged_stop kept j)
+unfolding advances
+judged_stays kept judged_as.Unknown = tt
+judged_stays kept judged_as.Fresh = tt
+judged_stays kept judged_as.Again = tt
+judged_stays kept judged_as.Bad = refl
+
+stop_stays : (full : Bool) (o : Option OwnerRow) (seqid : ℕ) (caller : Option Party) (file : ℕ) (d : Deed) → StopStays (owner_stop full o seqid caller file d)
+unfolding owner_stop advances
+stop_stays true None seqid caller file d = refl
+stop_stays false None seqid caller file d = tt
+stop_stays full (Some row) seqid caller file d = judged_stays row.reply (judged (Some row) seqid caller file d)
+
+turn_of_stop : (s : Seen) (call : Call) (verdict : Verdict) (owner : Owner) (x : Option Stop)
+    → (checks s call.caller call.file verdict call.deed).unresolved ≡ None → (checks s call.caller call.file verdict call.deed).seqid ≡ x → StopStays x
+    → seqid_owner (look s) call.caller call.deed ≡ Some owner → IsTurn s call verdict (turn_by call.deed owner x)
+turn_of_stop s call verdict owner None own stops stays its = (record { unresolved = own; seqid = stops }, its)
+turn_of_stop s call verdict owner (Some (Refuse status)) own stops stays its =
+    applied_before s call verdict status (first_seqid (checks s call.caller call.file verdict call.deed) (Refuse status) own stops) stays
+turn_of_stop s call verdict owner (Some (Repeat kept)) own stops stays its =
+    applied_again s call verdict kept (first_seqid (checks s call.caller call.file verdict call.deed) (Repeat kept) own stops)
+
+-- what is resolvable in the file system is named by its counter
+named_resolved : (s : Seen) (stateid : StateRef) (row : OpenRow) → resolved s stateid ≡ Some row → named_by (look s) stateid ≡ Some row
+unfolding resolved named_by look
+named_resolved s Zeros row found = cc
+named_resolved s Ones row found = cc
+named_resolved s (Named id) row found = by_fs (id.fs == s.fs) found
+  where
+    by_fs : (b : Bool) → cond b (option_or (open_at id.counter s.opens) (open_at id.counter s.closed)) None ≡ Some row
+        → option_or (open_at id.counter s.opens) (open_at id.counter s.closed) ≡ Some row
+    by_fs true here = here
+    by_fs false elsewhere = cc
+
+-- an operation on an open
+at_turn : (s : Seen) (call : Call) (verdict : Verdict) (seqid : ℕ) (stateid : StateRef)
+    → (checks s call.caller call.file verdict call.deed).unresolved ≡ unresolved_at call.caller (resolved s stateid)
+    → (checks s call.caller call.file verdict call.deed).seqid ≡ owner_stop_at s (resolved s stateid) seqid call.caller call.file call.deed
+    → seqid_owner (look s) call.caller call.deed ≡ owner_named (look s) stateid
+    → IsTurn s call verdict (turn_at s (resolved s stateid) seqid call.caller call.file call.deed)
+unfolding turn_at owner_stop_at advances
+at_turn s call verdict seqid stateid unresolved stops its = by_row (resolved s stateid) refl unresolved stops
+  where
+    c : Checks
+    c = checks s call.caller call.file verdict call.deed
+
+    bad : c.unresolved ≡ Some BadStateId → IsTurn s call verdict (Answered (reply_with BadStateId (refused_value call.deed)))
+    bad it = applied_before s call verdict BadStateId (first_unresolved c BadStateId it) refl
+
+    by_own : (row : OpenRow) (b : Bool) → resolved s stateid ≡ Some row → c.unresolved ≡ cond (not b) (Some BadStateId) None
+        → c.seqid ≡ owner_stop false (owner_at row.owner s.owners) seqid call.caller call.file call.deed
+        → IsTurn s call verdict (cond b (turn_by call.deed row.owner (owner_stop false (owner_at row.owner s.owners) seqid call.caller call.file call.deed)) (Answered (reply_with BadStateId (refused_value call.deed))))
+    by_own row true found own stops =
+        turn_of_stop s call verdict row.owner (owner_stop false (owner_at row.owner s.owners) seqid call.caller call.file call.deed) own stops
+        (stop_stays false (owner_at row.owner s.owners) seqid call.caller call.file call.deed)
+        (its ∙ ap (λ o. option_map (λ (r : OpenRow). r.owner) o) (named_resolved s stateid row found))
+    by_own row false found own stops = bad own
+
+    by_row : (o : Option OpenRow) → resolved s stateid ≡ o → c.unresolved ≡ unresolved_at call.caller o
+        → c.seqid ≡ owner_stop_at s o seqid call.caller call.file call.deed
+        → IsTurn s call verdict (turn_at s o seqid call.caller call.file call.deed)
+    by_row None found own stops = bad own
+    by_row (Some row) found own stops = by_own row (is_own call.caller row) found own stops
+
+close_turn_of : (s : Seen) (caller : Option Party) (file : ℕ) (args : CloseArgs) (verdict : Verdict)
+    → IsTurn s (record { caller = caller; file = file; deed = deed.Close args }) verdict (turn_at s (resolved s args.stateid) args.seqid caller file (deed.Close args))
+unfolding close_checks seqid_owner
+close_turn_of s caller file args verdict = at_turn s (record { caller = caller; file = file; deed = deed.Close args }) verdict args.seqid args.stateid refl refl refl
+
+confirm_turn_of : (s : Seen) (caller : Option Party) (file : ℕ) (args : OpenConfirmArgs) (verdict : Verdict)
+    → IsTurn s (record { caller = caller; file = file; deed = deed.OpenConfirm args }) verdict (turn_at s (resolved s args.stateid) args.seqid caller file (deed.OpenConfirm args))
+unfolding confirm_checks seqid_owner
+confirm_turn_of s caller file args verdict = at_turn s (record { caller = caller; file = file; deed = deed.OpenConfirm args }) verdict args.seqid args.stateid refl refl refl
+
+downgrade_turn_of : (s : Seen) (caller : Option Party) (file : ℕ) (args : OpenDowngradeArgs) (verdict : Verdict)
+    → IsTurn s (record { caller = caller; file = file; deed = deed.OpenDowngrade args }) verdict (turn_at s (resolved s args.stateid) args.seqid caller file (deed.OpenDowngrade args))
+unfolding downgrade_checks seqid_owner
+downgrade_turn_of s caller file args verdict = at_turn s (record { caller = caller; file = file; deed = deed.OpenDowngrade args }) verdict args.seqid args.stateid refl refl refl
+
+claim_stays : (claim : Claim) → StopStays (refusal (claim_unresolved claim))
+unfolding claim_unresolved advances
+claim_stays (Null _) = tt
+claim_stays (Previous _) = tt
+claim_stays (DelegateCur _ _) = refl
+claim_stays (DelegatePrev _) = tt
+
+open_turn_of : (s : Seen) (party : Party) (file : ℕ) (args : OpenArgs) (verdict : Verdict)
+    → IsTurn s (record { caller = Some party; file = file; deed = deed.Open args }) verdict (turn_to_open s party file args)
+unfolding open_checks seqid_owner turn_to_open advances
+open_turn_of s party file args verdict = by_claim (claim_unresolved args.claim) refl (claim_stays args.claim)
+  where
+    call : Call
+    call = record { caller = Some party; file = file; deed = deed.Open args }
+
+    by_claim : (o : Option OpStatus) → claim_unresolved args.claim ≡ o → StopStays (refusal o)
+        → IsTurn s call verdict (turn_unless (deed.Open args) o (turn_by (deed.Open args) (opener party args)
+        (owner_stop (nat_le rows_limit (rows_taken s)) (owner_at (opener party args) s.owners) args.seqid (Some party) file (deed.Open args))))
+    by_claim None own stays =
+        turn_of_stop s call verdict (opener party args) _ own refl
+        (stop_stays (nat_le rows_limit (rows_taken s)) (owner_at (opener party args) s.owners) args.seqid (Some party) file (deed.Open args)) refl
+    by_claim (Some status) own stays =
+        applied_before s call verdict status (first_unresolved (open_checks s (Some party) file args verdict) status own) stays
+
+-- ---- by the call as it came
+
+pub call_is : (call : Call) (d : Deed) → call.deed ≡ d → record { caller = call.caller; file = call.file; deed = d } ≡ call
+call_is call d its = λ i. record { caller = call.caller; file = call.file; deed = sym its i }
+
+pub open_is : (call : Call) (party : Party) (d : Deed) → call.caller ≡ Some party → call.deed ≡ d → record { caller = Some party; file = call.file; deed = d } ≡ call
+open_is call party d its_caller its = λ i. record { caller = sym its_caller i; file = call.file; deed = sym its i }
+
+turn_as : (s : Seen) (call other : Call) (verdict : Verdict) (o : Option OpenRow) (stateid : StateRef) (seqid : ℕ) (t its : Turn)
+    → IsTurn s other verdict (turn_at s (resolved s stateid) seqid other.caller other.file other.deed)
+    → other ≡ call → o ≡ resolved s stateid → t ≡ turn_at s o seqid call.caller call.file call.deed → t ≡ its → IsTurn s call verdict its
+turn_as s call other verdict o stateid seqid t its turn same row told is =
+    subst (λ x. IsTurn s call verdict x) (ap (λ r. turn_at s r seqid call.caller call.file call.deed) (sym row) ∙ sym told ∙ is)
+    (subst (λ q. IsTurn s q verdict (turn_at s (resolved s stateid) seqid q.caller q.file q.deed)) same turn)
+
+pub close_turn : (s : Seen) (call : Call) (args : CloseArgs) (verdict : Verdict) (o : Option OpenRow) (t its : Turn) → call.deed ≡ deed.Close args
+    → o ≡ resolved s args.stateid → t ≡ turn_at s o args.seqid call.caller call.file call.deed → t ≡ its → IsTurn s call verdict its
+close_turn s call args verdict o t its asks row told is =
+    turn_as s call _ verdict o args.stateid args.seqid t its (close_turn_of s call.caller call.file args verdict) (call_is call (deed.Close args) asks) row told is
+
+pub confirm_turn : (s : Seen) (call : Call) (args : OpenConfirmArgs) (verdict : Verdict) (o : Option OpenRow) (t its : Turn) → call.deed ≡ deed.OpenConfirm args
+    → o ≡ resolved s args.stateid → t ≡ turn_at s o args.seqid call.caller call.file call.deed → t ≡ its → IsTurn s call verdict its
+confirm_turn s call args verdict o t its asks row told is =
+    turn_as s call _ verdict o args.stateid args.seqid t its (confirm_turn_of s call.caller call.file args verdict) (call_is call (deed.OpenConfirm args) asks) row told is
+
+pub downgrade_turn : (s : Seen) (call : Call) (args : OpenDowngradeArgs) (verdict : Verdict) (o : Option OpenRow) (t its : Turn) → call.deed ≡ deed.OpenDowngrade args
+    → o ≡ resolved s args.stateid → t ≡ turn_at s o args.seqid call.caller call.file call.deed → t ≡ its → IsTurn s call verdict its
+downgrade_turn s call args verdict o t its asks row told is =
+    turn_as s call _ verdict o args.stateid args.seqid t its (downgrade_turn_of s call.caller call.file args verdict) (call_is call (deed.OpenDowngrade args) asks) row told is
+
+pub open_turn : (s : Seen) (call : Call) (party : Party) (args : OpenArgs) (verdict : Verdict) (t its : Turn) → call.caller ≡ Some party → call.deed ≡ deed.Open args
+    → t ≡ turn_to_open s party call.file args → t ≡ its → IsTurn s call verdict its
+open_turn s call party args verdict t its caller asks told is =
+    subst (λ x. IsTurn s call verdict x) (sym told ∙ is)
+    (subst (λ q. IsTurn s q verdict (turn_to_open s party call.file args)) (open_is call party (deed.Open args) caller asks) (open_turn_of s party call.file args verdict))
+
+-- the owner is the one that opens
+pub open_its : (s : Seen) (call : Call) (party : Party) (args : OpenArgs) (verdict : Verdict) (o owner : Owner) → call.caller ≡ Some party → call.deed ≡ deed.Open args
+    → owner ≡ opener party args → IsTurn s call verdict (Of o) → IsTurn s call verdict (Of owner)
+unfolding seqid_owner
+open_its s call party args verdict o owner caller asks its turn =
+    (turn.0, ap (λ q. seqid_owner (look s) q.caller q.deed) (sym (open_is call party (deed.Open args) caller asks)) ∙ ap Some (sym its))
+
+pub open_let_pass : (s : Seen) (call : Call) (party : Party) (args : OpenArgs) (verdict : Verdict) (o : Owner) → call.caller ≡ Some party → call.deed ≡ deed.Open args
+    → IsTurn s call verdict (Of o) → Passes (open_checks s (Some party) call.file args verdict)
+open_let_pass s call party args verdict o caller asks turn =
+    subst (λ q. Passes (checks s q.caller q.file verdict q.deed)) (sym (open_is call party (deed.Open args) caller asks)) turn.0
+
+-- an OPEN that names no caller
+nobody : (s : Seen) (file : ℕ) (args : OpenArgs) (verdict : Verdict)
+    → Applied s (Asked (record { caller = None; file = file; deed = deed.Open args }) verdict) (reply_with StaleClientId (told.Open None)) s
+unfolding open_checks advances
+nobody s file args verdict = applied_before s (record { caller = None; file = file; deed = deed.Open args }) verdict StaleClientId refl refl
+
+pub nobody_opens : (s : Seen) (call : Call) (args : OpenArgs) (verdict : Verdict) → call.caller ≡ None → call.deed ≡ deed.Open args
+    → Applied s (Asked call verdict) (reply_with StaleClientId (told.Open None)) s
+nobody_opens s call args verdict caller asks =
+    subst (λ q. Applied s (Asked q verdict) (reply_with StaleClientId (told.Open None)) s)
+    (λ i. record { caller = sym caller i; file = call.file; deed = sym asks i }) (nobody s call.file args verdict)
+
+-- ---- it was its turn
+
+behind : (c : Checks) → Passes c → first c ≡ refusal (behind_seqid c)
+behind c passes = rw (passes.unresolved, passes.seqid) refl
+
+-- what is told of it is the answer
+told_behind : (s : Seen) (call : Call) (verdict : Verdict) (owner : Owner) (r : Reply) → IsTurn s call verdict (Of owner)
+    → r ≡ reply_behind s call verdict → r ≡ answer_to s (Asked call verdict)
+unfolding answer_to
+told_behind s call verdict owner r turn it = it ∙ ap (reply_by s call) (sym (behind _ turn.0))
+
+pub open_passes : (s : Seen) (party : Party) (file : ℕ) (args : OpenArgs) (verdict : Verdict) → Passes (open_checks s (Some party) file args verdict)
+    → None ≡ behind_seqid (open_checks s (Some party) file args verdict) → GoesOpen s party file args
+open_passes s party file args verdict passes goes =
+    open_goes s party file args verdict (behind (open_checks s (Some party) file args verdict) passes ∙ ap refusal (sym goes))
+
+is_its_turn : (s : Seen) (call : Call) (verdict : Verdict) → Passes (checks s call.caller call.file verdict call.deed) → is_fresh (judgement (look s) call) ≡ true
+is_its_turn s call verdict passes =
+    subst (λ o. SeqidTells o (judgement (look s) call)) passes.seqid (seqid_tells s call.caller call.file verdict call.deed passes.unresolved)
+
+-- a refusal has no words
+refused_words : (n : Now) (caller : Option Party) (file : ℕ) (d : Deed) → deed_words n caller file d (refused_value d) ≡ no_words
+unfolding set_tree is_empty
+refused_words n caller file (deed.Access _) = refl
+refused_words n caller file (deed.Close _) = refl
+refused_words n caller file (deed.Commit _) = refl
+refused_words n caller file (deed.Create _) = refl
+refused_words n caller file (deed.GetAttr _) = refl
+refused_words n caller file (deed.Lookup _) = refl
+refused_words n caller file deed.LookupP = refl
+refused_words n None file (deed.Open _) = refl
+refused_words n (Some party) file (deed.Open _) = refl
+refused_words n caller file (deed.OpenConfirm _) = refl
+refused_words n caller file (deed.OpenDowngrade _) = refl
+refused_words n caller file (deed.Read _) = refl
+refused_words n caller file (deed.ReadDir _) = refl
+refused_words n caller file (deed.Remove _) = refl
+refused_words n caller file (deed.SetAttr _) = refl
+refused_words n caller file (deed.Write _) = refl
+
+pub nothing_left : (s : Seen) (call : Call) → s ≡ after_words s (with_owners (deed_words (look s) call.caller call.file call.deed (refused_value call.deed)) Stays)
+nothing_left s call =
+    sym (ap (λ w. after_words s (with_owners w Stays)) (refused_words (look s) call.caller call.file call.deed) ∙ same-after s)
+
+-- and closes nothing
+pub none_closed : (s : Seen) (call : Call) → None ≡ closed_by (look s) call.deed (refused_value call.deed)
+unfolding closed_by
+none_closed s call = by_deed call.deed
+  where
+    by_deed : (d : Deed) → None ≡ closed_by (look s) d (refused_value d)
+    by_deed (deed.Access _) = refl
+    by_deed (deed.Close _) = refl
+    by_deed (deed.Commit _) = refl
+    by_deed (deed.Create _) = refl
+    by_deed (deed.GetAttr _) = refl
+    by_deed (deed.Lookup _) = refl
+    by_deed deed.LookupP = refl
+    by_deed (deed.Open _) = refl
+    by_deed (deed.OpenConfirm _) = refl
+    by_deed (deed.OpenDowngrade _) = refl
+    by_deed (deed.Read _) = refl
+    by_deed (deed.ReadDir _) = refl
+    by_deed (deed.Remove _) = refl
+    by_deed (deed.SetAttr _) = refl
+    by_deed (deed.Write _) = refl
+
+either_way : {A : Type 0} (b : Bool) (x y : A) → x ≡ y → cond b x y ≡ x
+either_way true x y same = refl
+either_way false x y same = sym same
+
+-- so it doesn't matter whether it is done
+words_behind : (s : Seen) (call : Call) (x : Option OpStatus)
+    → cond (is_done (reply_by s call (refusal x)).status) (deed_words (look s) call.caller call.file call.deed (reply_by s call (refusal x)).value) no_words
+    ≡ deed_words (look s) call.caller call.file call.deed (reply_by s call (refusal x)).value
+unfolding is_done
+words_behind s call None = refl
+words_behind s call (Some status) = either_way (is_done status) _ no_words (refused_words (look s) call.caller call.file call.deed)
+
+applied_noted : (s : Seen) (call : Call) (verdict : Verdict) (owner : Owner) (r : Reply) (closed : Option OpenRow) (mid : Seen)
+    → IsTurn s call verdict (Of owner) → Went s call verdict r closed mid
+    → Applied s (Asked call verdict) r (after_noting (note_word s owner call r closed) mid)
+unfolding words noted note_word look after_noting after_words owners_after closed_after
+applied_noted s call verdict owner r closed mid turn went = record {
+  answer = told_behind s call verdict owner r turn went.answer;
+  tables = ap (after_noting (note_word s owner call r closed)) went.tables
+      ∙ notes done (note_word s owner call r closed)
+      ∙ ap (λ o. after_words s (with_owners done (note_word s owner call r o))) went.closed
+      ∙ ap (after_words s) (sym its_words);
+}
+  where
+    done : Words
+    done = deed_words (look s) call.caller call.file call.deed r.value
+
+    notes : (w : Words) (word : OwnerWord) → after_noting word (after_words s (with_owners w Stays)) ≡ after_words s (with_owners w word)
+    notes w word = refl
+
+    acted : cond (is_done r.status) done no_words ≡ done
+    acted = subst (λ (q : Reply). cond (is_done q.status) (deed_words (look s) call.caller call.file call.deed q.value) no_words ≡ deed_words (look s) call.caller call.file call.deed q.value)
+        (sym went.answer) (words_behind s call (behind_seqid (checks s call.caller call.file verdict call.deed)))
+
+    its_words : words (look s) (Asked call verdict) r ≡ with_owners done (note_word s owner call r (closed_by (look s) call.deed r.value))
+    its_words = rw (is_its_turn s call verdict turn.0, turn.1) (ap (λ w. with_owners w (note_word s owner call r (closed_by (look s) call.deed r.value))) acted)
+
+-- by the call as it came, and the owners as they were then
+pub noted_as : (s : Seen) (call other : Call) (verdict : Verdict) (owner : Owner) (r : Reply) (closed : Option OpenRow) (mid new : Seen)
+    → other ≡ call → IsTurn s call verdict (Of owner) → Went s other verdict r closed mid → new ≡ after_noting (note_word mid owner call r closed) mid
+    → Applied s (Asked call verdict) r new
+unfolding after_words owners_after note_word
+noted_as s call other verdict owner r closed mid new same turn went noted =
+    let its : Went s call verdict r closed mid = subst (λ q. Went s q verdict r closed mid) same went in
+    let kept : note_word mid owner call r closed ≡ note_word s owner call r closed = ap (λ (m : Seen). note_word m owner call r closed) its.tables in
+    subst (λ x. Applied s (Asked call verdict) r x) (sym (noted ∙ ap (λ w. after_noting w mid) kept)) (applied_noted s call verdict owner r closed mid turn its)
+
+pub told_as : (s : Seen) (call other : Call) (verdict : Verdict) (owner : Owner) (r : Reply)
+    → other ≡ call → IsTurn s call verdict (Of owner) → r ≡ reply_behind s other verdict → r ≡ answer_to s (Asked call verdict)
+told_as s call other verdict owner r same turn it = told_behind s call verdict owner r turn (it ∙ ap (λ q. reply_behind s q verdict) same)

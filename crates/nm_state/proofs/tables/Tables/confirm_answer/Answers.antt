@@ -1,0 +1,13 @@
+use Rattle.nm_rules.specs.declared.calls.Deed.TheVariants.{OpenConfirm}
+use Rattle.nm_state.proofs.TurnLemmas.{call_is, confirm_turn, told_as}
+use Rattle.nm_state.proofs.tables.Tables.confirm_answer.Goals as goal
+
+pub returns-in-Answered : goal.returns-in-Answered
+returns-in-Answered c =
+    (confirm_turn c.args.self.now c.args.call.now c.args.args.now c.args.verdict _ _ _ c.requires c.resolved.ensures c.in_ok-reply.ensures c.in-Answered.is).answer
+
+pub returns : goal.returns
+returns c =
+    told_as c.args.self.now c.args.call.now _ c.args.verdict _ _ (call_is c.args.call.now (OpenConfirm c.args.args.now) c.requires)
+    (confirm_turn c.args.self.now c.args.call.now c.args.args.now c.args.verdict _ _ _ c.requires c.resolved.ensures c.in_ok-reply.ensures c.in-Of.is)
+    c.confirm_reply.ensures

@@ -1,0 +1,16 @@
+use Rattle.std.proofs.Common.{Some}
+use Rattle.nm_rules.specs.declared.calls.Call.{Call}
+use Rattle.nm_rules.specs.declared.calls.Deed.TheVariants.{Open}
+use Rattle.nm_state.proofs.WentLemmas.{went_open, went_refused}
+use Rattle.nm_state.proofs.tables.Tables.open_in_turn.Goals as goal
+
+pub returns-in-Some : goal.returns-in-Some
+returns-in-Some c =
+    let call : Call = record { caller = Some c.args.party; file = c.args.call.now.file; deed = Open c.args.args.now } in
+    rw c.reply.ensures (went_refused c.args.self.now call c.args.verdict c.in-Some.status c.in-Some.ensures)
+
+pub returns : goal.returns
+returns c =
+    rw (c.reply-2.ensures, c.in_ok-open_file.ensures.after)
+    (went_open c.args.self.now c.args.party c.args.call.now.file c.args.args.now c.args.verdict c.in_ok-opened.opened
+    c.in_ok-open_file.ensures.rising c.in_default.ensures c.in_ok-opened.ensures)
