@@ -28,6 +28,10 @@ enum Step {
     Judged(Who, u32, u32, Judgement),
     // It was OK.
     Opened(Who, u32, u32),
+    // An OPEN with that seqid was delayed, with a delegation to recall.
+    Delayed(Who, u32),
+    // The kept reply is that delay, without it.
+    KeepsDelay(Who),
     // An OPEN_CONFIRM was answered so.
     Confirmed(Who, u32, OpStatus),
     // Whether the owner is confirmed.
@@ -38,7 +42,7 @@ enum Step {
     Known(usize),
 }
 
-use Step::{Confirmed, Ended, Forgotten, IsConfirmed, Judged, Known, Opened};
+use Step::{Confirmed, Delayed, Ended, Forgotten, IsConfirmed, Judged, KeepsDelay, Known, Opened};
 
 // The first operation of an owner may have any seqid. From then on it is the next one, where 1 follows the greatest.
 const SEQIDS: [Step; 14] = [
@@ -70,6 +74,9 @@ const CONFIRMS: [Step; 9] = [
     Opened(A, 10, 1),
     IsConfirmed(A, true),
 ];
+
+// A kept reply has no delegations to recall.
+const DELAYS: [Step; 2] = [Delayed(A, 7), KeepsDelay(A)];
 
 // With an instance its owners go. Another start of the client is another instance.
 const ENDS: [Step; 11] = [
@@ -106,12 +113,7 @@ fn an_instance_ends_with_its_owners(rt: HostRuntime) -> Result<(), Fail> {
 
 #[test]
 fn a_kept_reply_recalls_nothing(rt: HostRuntime) -> Result<(), Fail> {
-    let alloc = rt.alloc();
-    let (owner, call) = (owner(alloc, A)?, open(alloc, A, 7, 1)?);
-    let (given, kept) = (reply(alloc, 1)?, reply(alloc, 0)?);
-    let mut owners = Owners::new(alloc);
-    owners.note(&owner, 7, &call, &given)?;
-    assert_eq!(rt; owners.kept(&owner), Some(&kept));
+    assert_eq!(rt; first_that_differs(rt.alloc(), &DELAYS)?, None);
     Ok(())
 }
 
@@ -141,15 +143,20 @@ fn first_that_differs(alloc: Global, steps: &[Step]) -> Result<Option<usize>, Fa
 // Makes a step. Whether it turns out as it says.
 fn does(alloc: Global, owners: &mut Owners, step: Step) -> Result<bool, Fail> {
     match step {
-        Judged(who, seqid, access, wanted) => { judges(alloc, owners, who, seqid, access, wanted) }
+        Judged(who, seqid, access, wanted) => judges(alloc, owners, who, seqid, access, wanted),
         Opened(who, seqid, access) => {
             let call = open(alloc, who, seqid, access)?;
-            notes(alloc, owners, who, seqid, &call, OpStatus::Nfs4Ok)
+            notes(alloc, owners, who, &call, seqid, OpStatus::Nfs4Ok, 0)
+        }
+        Delayed(who, seqid) => {
+            let call = open(alloc, who, seqid, 1)?;
+            notes(alloc, owners, who, &call, seqid, OpStatus::Delay, 1)
         }
         Confirmed(who, seqid, status) => {
             let call = confirm(who, seqid)?;
-            notes(alloc, owners, who, seqid, &call, status)
+            notes(alloc, owners, who, &call, seqid, status, 0)
         }
+        KeepsDelay(who) => keeps_delay(alloc, owners, who),
         IsConfirmed(who, wanted) => Ok(owners.is_confirmed(&owner(alloc, who)?) == wanted),
         Forgotten(who) => {
             owners.forget(&owner(alloc, who)?);
@@ -171,26 +178,31 @@ fn judges(
     access: u32,
     wanted: Judgement,
 ) -> Result<bool, Fail> {
-    let (owner, call) = (owner(alloc, who)?, open(alloc, who, seqid, access)?);
+    let owner = owner(alloc, who)?;
+    let call = open(alloc, who, seqid, access)?;
     Ok(owners.judge(&owner, seqid, &call) == wanted)
 }
 
+// Notes a call that was answered so, with so many delegations to recall.
 fn notes(
     alloc: Global,
     owners: &mut Owners,
     who: Who,
-    seqid: u32,
     call: &Call,
+    seqid: u32,
     status: OpStatus,
+    recalls: usize,
 ) -> Result<bool, Fail> {
     let owner = owner(alloc, who)?;
-    let reply = Reply {
-        status,
-        value: ReplyValue::Nothing,
-        recalls: Items::new(alloc),
-    };
+    let reply = answered(alloc, status, recalls)?;
     owners.note(&owner, seqid, call, &reply)?;
     Ok(true)
+}
+
+fn keeps_delay(alloc: Global, owners: &Owners, who: Who) -> Result<bool, Fail> {
+    let owner = owner(alloc, who)?;
+    let kept = answered(alloc, OpStatus::Delay, 0)?;
+    Ok(owners.kept(&owner) == Some(&kept))
 }
 
 fn instance(who: Who) -> Result<Instance, Fail> {
@@ -236,8 +248,8 @@ fn confirm(who: Who, seqid: u32) -> Result<Call, Fail> {
     })
 }
 
-// A reply with so many delegations to recall.
-fn reply(alloc: Global, recalls: usize) -> Result<Reply, Fail> {
+// A reply of that status, with so many delegations to recall.
+fn answered(alloc: Global, status: OpStatus, recalls: usize) -> Result<Reply, Fail> {
     let mut list: Recalls = Items::new(alloc);
     for _ in 0..recalls {
         list.push(Recall {
@@ -247,8 +259,8 @@ fn reply(alloc: Global, recalls: usize) -> Result<Reply, Fail> {
         })?;
     }
     Ok(Reply {
-        status: OpStatus::Delay,
-        value: ReplyValue::Open(None),
+        status,
+        value: ReplyValue::Nothing,
         recalls: list,
     })
 }

@@ -438,14 +438,15 @@ fn calls_are_made_until_the_freeze(rt: HostRuntime) -> Result<(), Fail> {
     Ok(())
 }
 
-// Opens `f` for a client, the first time.
+// Opens `f` for a client, by its owner with that seqid.
 fn open_by(
     alloc: Global,
     slot: &mut Slot,
     pass: &FsPass,
     caller: Instance,
+    seqid: u32,
 ) -> Result<Called, Memory> {
-    let asked = open(alloc, caller, 1)?;
+    let asked = open(alloc, caller, seqid)?;
     call(slot, pass, &asked)
 }
 
@@ -454,8 +455,8 @@ fn opened_and_frozen(rt: &impl Abort, alloc: Global) -> Result<Slot, Fail> {
     let (here, dest, pass) = (server(0)?, server(1)?, pass(0)?);
     let (a, b) = (client(b"A")?, client(b"B")?);
     let mut slot = slot_in(rt, alloc, Made::Serving)?;
-    assert_eq!(rt; open_by(alloc, &mut slot, &pass, b), done(1));
-    assert_eq!(rt; open_by(alloc, &mut slot, &pass, a), done(2));
+    assert_eq!(rt; open_by(alloc, &mut slot, &pass, b, 1), done(1));
+    assert_eq!(rt; open_by(alloc, &mut slot, &pass, a, 1), done(2));
     assert_eq!(rt; slot.begin(here, dest), Begin::Begun(MoveNum::new(1)));
     assert_eq!(rt; slot.freeze(), Freeze::Frozen(MoveNum::new(1)));
     Ok(slot)
@@ -513,13 +514,18 @@ fn an_offer_is_installed_once(rt: HostRuntime) -> Result<(), Fail> {
 #[test]
 fn the_state_goes_on_at_the_destination(rt: HostRuntime) -> Result<(), Fail> {
     let alloc = rt.alloc();
-    let (old, new) = (pass(0)?, pass(1)?);
-    let asked = open(alloc, client(b"A")?, 2)?;
+    let (a, old, new) = (client(b"A")?, pass(0)?, pass(1)?);
     let mut slot = offered(&rt, alloc)?;
     assert_eq!(rt; slot.install(MoveNum::new(1)), Install::Now);
     assert_eq!(rt; (slot.epoch().number(), slot.count()), (1, 2));
-    assert_eq!(rt; call(&mut slot, &old, &asked), Ok(Called::Strayed(0, 1)));
-    assert_eq!(rt; call(&mut slot, &new, &asked), done(3));
+    assert_eq!(rt;
+        open_by(alloc, &mut slot, &old, a, 2),
+        Ok(Called::Strayed(0, 1))
+    );
+    // The owner's seqid has come along.
+    let bad = Ok(Called::Done(3, OpStatus::BadSeqid));
+    assert_eq!(rt; open_by(alloc, &mut slot, &new, a, 3), bad);
+    assert_eq!(rt; open_by(alloc, &mut slot, &new, a, 2), done(4));
     Ok(())
 }
 
