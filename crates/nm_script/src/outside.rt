@@ -136,99 +136,116 @@ pub fn write_all<K: Sink>(sink: &mut K, bytes: &[u8]) -> Result<(), Failed>
 mod tests {
     use super::*;
     use crate::{MemorySink, MemorySource};
+    use nm_rules::Memory;
     use std::test::Fail;
 
     const TEXT: &[u8] = b"lease 90\n\nserver S1\n";
 
-    #[test]
-    fn pieces_of_any_size_give_the_same_text(rt: HostRuntime) -> Result<(), Fail> {
-        let alloc = rt.alloc();
-        for piece in [0, 1, 2, 7, 100] {
-            let mut source = MemorySource::new(alloc, TEXT, piece, &[])?;
-            let text = read_all(alloc, &mut source, 1000)?;
-            assert_eq!(rt; text.as_slice(), TEXT);
-            assert_eq!(rt; source.faults(), 0);
+    /// How TEXT is read: in pieces of so many bytes, with the failing reads, up to a limit; and what is read. `None` where a
+    /// read failed.
+    type Reading = (usize, &'static [u64], usize, Option<&'static [u8]>);
+
+    const READINGS: [Reading; 14] = [
+        // Pieces of any size give the same text.
+        (0, &[], 1000, Some(TEXT)),
+        (1, &[], 1000, Some(TEXT)),
+        (2, &[], 1000, Some(TEXT)),
+        (7, &[], 1000, Some(TEXT)),
+        (100, &[], 1000, Some(TEXT)),
+        // A source is read for one byte more than asked.
+        (1, &[], 8, Some(b"lease 90\n")),
+        (2, &[], 8, Some(b"lease 90\n")),
+        (7, &[], 8, Some(b"lease 90\n")),
+        (1, &[], 20, Some(TEXT)),
+        (2, &[], 20, Some(TEXT)),
+        (7, &[], 20, Some(TEXT)),
+        // A read that fails is no end.
+        (7, &[1], 1000, None),
+        (7, &[2], 1000, None),
+        (7, &[3], 1000, None),
+    ];
+
+    fn is_read_so(alloc: Global, row: &Reading) -> Result<bool, Memory> {
+        let (piece, failing, most, wanted) = *row;
+        let mut source = MemorySource::new(alloc, TEXT, piece, failing)?;
+        match read_all(alloc, &mut source, most) {
+            Ok(text) => Ok(wanted == Some(text.as_slice()) && source.faults() == 0),
+            Err(ReadAllFault::Failed) => Ok(wanted.is_none() && source.faults() == 1),
+            Err(ReadAllFault::Memory) => Err(Memory),
         }
-        Ok(())
     }
 
-    #[test]
-    fn a_read_gives_a_piece_at_most(rt: HostRuntime) -> Result<(), Fail> {
-        let mut source = MemorySource::new(rt.alloc(), b"abcde", 2, &[2])?;
-        let mut buf = [0; 4];
-        assert_eq!(rt; source.read(&mut buf), Ok(2));
-        assert_eq!(rt; buf, [97, 98, 0, 0]);
-        assert_eq!(rt; source.read(&mut buf), Err(Failed));
-        assert_eq!(rt; source.read(&mut []), Ok(0));
-        assert_eq!(rt; source.read(&mut buf), Ok(2));
-        assert_eq!(rt; buf, [99, 100, 0, 0]);
-        assert_eq!(rt; source.read(&mut buf), Ok(1));
-        assert_eq!(rt; source.read(&mut buf), Ok(0));
-        Ok(())
-    }
-
-    #[test]
-    fn a_source_is_read_for_one_byte_more_than_asked(rt: HostRuntime) -> Result<(), Fail> {
-        let alloc = rt.alloc();
-        for piece in [1, 2, 7] {
-            let mut source = MemorySource::new(alloc, TEXT, piece, &[])?;
-            assert_eq!(rt;
-                read_all(alloc, &mut source, 8)?.as_slice(),
-                b"lease 90\n".as_slice()
-            );
-            let mut source = MemorySource::new(alloc, TEXT, piece, &[])?;
-            assert_eq!(rt; read_all(alloc, &mut source, TEXT.len())?.as_slice(), TEXT);
+    fn other_reading(alloc: Global) -> Result<Option<usize>, Memory> {
+        for (number, row) in READINGS.iter().enumerate() {
+            if !is_read_so(alloc, row)? {
+                return Ok(Some(number));
+            }
         }
-        Ok(())
+        Ok(None)
     }
 
-    #[test]
-    fn a_read_that_fails_is_no_end(rt: HostRuntime) -> Result<(), Fail> {
-        let alloc = rt.alloc();
-        for failing in [1, 2, 3] {
-            let mut source = MemorySource::new(alloc, TEXT, 7, &[failing])?;
-            assert!(rt;
-                matches!(
-                    &read_all(alloc, &mut source, 1000),
-                    Err(ReadAllFault::Failed)
-                )
-            );
-            assert_eq!(rt; source.faults(), 1);
+    /// How a text is written: at most so many bytes at a time, with the failing writes; what is held then, and how many failed.
+    type Writing = (&'static [u8], usize, &'static [u64], &'static [u8], u64);
+
+    const WRITINGS: [Writing; 8] = [
+        (TEXT, 0, &[], TEXT, 0),
+        (TEXT, 1, &[], TEXT, 0),
+        (TEXT, 2, &[], TEXT, 0),
+        (TEXT, 7, &[], TEXT, 0),
+        (TEXT, 100, &[], TEXT, 0),
+        // A write that fails leaves the front.
+        (TEXT, 7, &[1], b"", 1),
+        (TEXT, 7, &[2], b"lease 9", 1),
+        // Nothing is written without a call.
+        (b"", 7, &[1], b"", 0),
+    ];
+
+    fn is_written_so(alloc: Global, row: &Writing) -> Result<bool, Memory> {
+        let (text, piece, failing, held, faults) = *row;
+        let mut sink = MemorySink::new(alloc, piece, failing)?;
+        let failed = write_all(&mut sink, text).is_err();
+        Ok(failed == (faults == 1) && sink.held() == held && sink.faults() == faults)
+    }
+
+    fn other_writing(alloc: Global) -> Result<Option<usize>, Memory> {
+        for (number, row) in WRITINGS.iter().enumerate() {
+            if !is_written_so(alloc, row)? {
+                return Ok(Some(number));
+            }
         }
-        Ok(())
+        Ok(None)
     }
 
-    #[test]
-    fn a_sink_may_take_a_byte_at_a_time(rt: HostRuntime) -> Result<(), Fail> {
-        let alloc = rt.alloc();
-        for piece in [0, 1, 2, 7, 100] {
-            let mut sink = MemorySink::new(alloc, piece, &[])?;
-            assert!(rt; write_all(&mut sink, TEXT).is_ok());
-            assert_eq!(rt; sink.held(), TEXT);
-            assert_eq!(rt; sink.faults(), 0);
+    /// Reads of five bytes, two at most at a time, the second of which fails: for how many there is room, and how many come.
+    const READS: [(usize, Option<usize>); 6] = [
+        (4, Some(2)),
+        (4, None),
+        (0, Some(0)),
+        (4, Some(2)),
+        (4, Some(1)),
+        (4, Some(0)),
+    ];
+
+    fn other_read(alloc: Global) -> Result<Option<usize>, Memory> {
+        let mut source = MemorySource::new(alloc, b"abcde", 2, &[2])?;
+        let mut buffer = [0; 4];
+        for (number, (room, wanted)) in READS.iter().enumerate() {
+            let (front, _) = buffer.split_at_mut((*room).min(4));
+            if source.read(front).ok() != *wanted {
+                return Ok(Some(number));
+            }
         }
-        Ok(())
+        Ok(None)
     }
 
     #[test]
-    fn a_write_that_fails_leaves_the_front(rt: HostRuntime) -> Result<(), Fail> {
-        let alloc = rt.alloc();
-        let mut sink = MemorySink::new(alloc, 7, &[1])?;
-        assert_eq!(rt; write_all(&mut sink, TEXT), Err(Failed));
-        assert_eq!(rt; sink.held(), b"".as_slice());
-        assert_eq!(rt; sink.faults(), 1);
-        let mut sink = MemorySink::new(alloc, 7, &[2])?;
-        assert_eq!(rt; write_all(&mut sink, TEXT), Err(Failed));
-        assert_eq!(rt; sink.held(), b"lease 9".as_slice());
-        assert_eq!(rt; sink.faults(), 1);
-        Ok(())
-    }
-
-    #[test]
-    fn nothing_is_written_without_a_call(rt: HostRuntime) -> Result<(), Fail> {
-        let mut sink = MemorySink::new(rt.alloc(), 7, &[1])?;
-        assert!(rt; write_all(&mut sink, b"").is_ok());
-        assert_eq!(rt; sink.faults(), 0);
+    fn a_text_is_read_and_written_in_pieces(rt: HostRuntime) -> Result<(), Fail> {
+        let others = (
+            other_read(rt.alloc())?,
+            other_reading(rt.alloc())?,
+            other_writing(rt.alloc())?,
+        );
+        assert_eq!(rt; others, (None, None, None));
         Ok(())
     }
 }

@@ -132,4 +132,6 @@ pub fn read_script(alloc: Global, bytes: &[u8]) -> Result<Script, ScriptFault>
 }
 
 #[cfg(test)]
+mod story;
+#[cfg(test)]
 mod tests;

@@ -94,25 +94,3 @@ pub(crate) fn append_table(
     append(out, b"\n")?;
     append_held_rows(out, table.items())
 }
-
-#[cfg(test)]
-mod tests {
-    use super::*;
-    use std::test::Fail;
-
-    #[test]
-    fn access_and_deny_are_printed_by_their_letters(rt: HostRuntime) -> Result<(), Fail> {
-        let mut out = Vec::new(rt.alloc());
-        for number in [1, 2, 3, 0, 4294967295] {
-            append_access(&mut out, number)?;
-            append(&mut out, b" ")?;
-        }
-        for number in [0, 1, 2, 3, 4] {
-            append_deny(&mut out, number)?;
-            append(&mut out, b" ")?;
-        }
-        let wanted = "r w rw 0 4294967295 none r w rw 4 ";
-        assert_eq!(rt; out.as_slice(), wanted.as_bytes());
-        Ok(())
-    }
-}

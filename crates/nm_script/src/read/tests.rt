@@ -1,22 +1,26 @@
 use super::read_script;
-use crate::{
-    ClientRow, ClientRows, FsRow, FsRows, Head, Line, Lines, Script, ScriptFault, ServerRow,
-    ServerRows, Why,
-};
-use nm_rules::{
-    Action, Bytes, CloseAction, FsNum, Items, Memory, NameAction, OpenAction, ReadAction,
-    ServerNum, SizeAction, WriteAction,
-};
+use crate::{ScriptFault, Why};
+use nm_rules::Memory;
 use std::alloc::Global;
 use std::test::*;
 
-/// A text that is no script: its first bad line, and why it is bad.
+/// A text that stands behind others and is bad there: the first bad line of the whole, and why it is bad.
 type Refused = (&'static [u8], u64, Why);
 
-/// The first bad line of two texts, one behind the other, and why it is bad.
-fn fault_of(alloc: Global, front: &[u8], rest: &[u8]) -> Result<Option<(u64, Why)>, Memory> {
-    let mut source = Vec::from_slice(alloc, front)?;
-    source.extend_from_slice(rest)?;
+/// A part that stands somewhere so many times, each time with a number of two digits between its halves.
+type Parts = (&'static [u8], &'static [u8], u32);
+
+/// No parts.
+const NONE: Parts = (b"", b"", 0);
+
+/// What is wrong with a front, parts and a rest, one behind the other.
+fn fault_of(
+    alloc: Global,
+    front: &[u8],
+    parts: &Parts,
+    rest: &[u8],
+) -> Result<Option<(u64, Why)>, Memory> {
+    let source = joined(alloc, front, parts, rest)?;
     match read_script(alloc, &source) {
         Ok(_) => Ok(None),
         Err(ScriptFault::At { line, why }) => Ok(Some((line, why))),
@@ -24,21 +28,90 @@ fn fault_of(alloc: Global, front: &[u8], rest: &[u8]) -> Result<Option<(u64, Why
     }
 }
 
-/// The first text of a table that isn't refused so behind that front.
-fn other(alloc: Global, front: &[u8], table: &[Refused]) -> Result<Option<&'static [u8]>, Memory> {
-    for (text, line, why) in table {
-        if fault_of(alloc, front, text)? != Some((*line, *why)) {
-            return Ok(Some(*text));
-        }
+fn joined(alloc: Global, front: &[u8], parts: &Parts, rest: &[u8]) -> Result<Vec<u8>, Memory> {
+    let (before, after, times) = *parts;
+    let mut source = Vec::from_slice(alloc, front)?;
+    for n in 0..times {
+        source.extend_from_slice(before)?;
+        source.extend_from_slice(&[b'0' + (n / 10 % 10) as u8, b'0' + (n % 10) as u8])?;
+        source.extend_from_slice(after)?;
     }
-    Ok(None)
+    source.extend_from_slice(rest)?;
+    Ok(source)
 }
+
+/// The front of a head with many servers.
+const LEASED: &[u8] = b"nfsmove 1\nlease 90\n";
+
+/// The front of a head with one server.
+const SERVED: &[u8] = b"nfsmove 1\nlease 90\nserver S1\n";
 
 /// The head that most cases stand on: five lines.
 const HEAD: &[u8] = b"nfsmove 1\nlease 90\nserver S1\nfs X at S1\nclient C1 7\n";
 
-/// Lines that are bad behind HEAD, as its line 6.
-const BAD_LINES: [Refused; 112] = [
+/// Bad texts with nothing before them.
+const BAD_STARTS: [Refused; 19] = [
+    // Nothing at all, and heads that end too early.
+    (b"", 1, Why::Head),
+    (b"\n", 2, Why::Head),
+    (b"# a comment\n\n", 3, Why::Head),
+    (b"nfsmove 1", 2, Why::Head),
+    (b"nfsmove 1\nlease 90\n", 3, Why::Head),
+    (b"nfsmove 1\n\nlease 90\n#\n", 5, Why::Head),
+    // Lines out of order, which their first words alone decide.
+    (b"lease 90\n", 1, Why::Head),
+    (b"show X\n", 1, Why::Head),
+    (b" nfsmove 1\n", 1, Why::Head),
+    (b"nfsmove2\n", 1, Why::Head),
+    (b"nfsmove 1\nnfsmove 1\n", 2, Why::Head),
+    (b"nfsmove 1\nserver S1\n", 2, Why::Head),
+    // Words.
+    (b"nfsmove 2\n", 1, Why::Word),
+    (b"nfsmove\n", 1, Why::Word),
+    (b"nfsmove 1 \n", 1, Why::Word),
+    (b"nfsmove 1\nlease\n", 2, Why::Word),
+    (b"nfsmove 1\nlease  90\n", 2, Why::Word),
+    // Numbers and their bounds.
+    (b"nfsmove 1\nlease 0\n", 2, Why::Number),
+    (b"nfsmove 1\nlease 3601\nshow\n", 2, Why::Number),
+];
+
+/// Bad texts behind LEASED.
+const BEHIND_LEASE: [Refused; 6] = [
+    // Lines out of order, which their first words alone decide.
+    (b"alias A S1\n", 3, Why::Head),
+    (b"fs X at S1\n", 3, Why::Head),
+    (b"client C1 7\n", 3, Why::Head),
+    (b"do C1 lock\n", 3, Why::Head),
+    // Words.
+    (b"server S1 tag 1\n", 3, Why::Word),
+    // Names, before numbers.
+    (b"server S.1\n", 3, Why::Name),
+];
+
+/// Bad texts behind SERVED.
+const BEHIND_SERVER: [Refused; 14] = [
+    // Lines out of order, which their first words alone decide.
+    (b"lease 90\n", 4, Why::Head),
+    (b"client C1 7\nfs X at S1\n", 5, Why::Head),
+    (b"fs X at S1\nserver S2\n", 5, Why::Head),
+    (b"fs X at S1\nshow X\nclient C1 7\n", 6, Why::Head),
+    // Words.
+    (b"server\n", 4, Why::Word),
+    (b"server S1 S2\n", 4, Why::Word),
+    (b"fs X in S2\n", 4, Why::Word),
+    (b"fs X at S1\nfs X at\n", 5, Why::Word),
+    // Names, before numbers.
+    (b"server S1\n", 4, Why::Name),
+    (b"fs X at S1\nfs X at S1\n", 5, Why::Name),
+    (b"server S2\nfs X at S3\n", 5, Why::Name),
+    (b"fs S1 at S1\n", 4, Why::Name),
+    (b"fs X at S2\n", 4, Why::Name),
+    (b"client S1 +7\n", 4, Why::Name),
+];
+
+/// Bad texts behind HEAD.
+const BEHIND_HEAD: [Refused; 118] = [
     // Bytes.
     (b"show X\r\n", 6, Why::Bytes),
     (b"# \x1f\n", 6, Why::Bytes),
@@ -66,6 +139,9 @@ const BAD_LINES: [Refused; 112] = [
     (b"do C1 create X f r no o\n", 6, Why::Word),
     (b"do C1 close X f r none o\n", 6, Why::Word),
     (b"do C1 close X f\n", 6, Why::Word),
+    (b"do C1 downgrade X f r none\n", 6, Why::Word),
+    (b"do C1 downgrade X f none r o\n", 6, Why::Word),
+    (b"do C1 downgrades X f r none o\n", 6, Why::Word),
     (b"do C9 open Y ? rwr none ?\n", 6, Why::Word),
     (b"show\n", 6, Why::Word),
     (b"show \n", 6, Why::Word),
@@ -122,6 +198,8 @@ const BAD_LINES: [Refused; 112] = [
     (b"settle x\n", 6, Why::Name),
     (b"do C1 close Y f o\n", 6, Why::Name),
     (b"do C1 close X . o\n", 6, Why::Name),
+    (b"do C9 downgrade X f r none o\n", 6, Why::Name),
+    (b"do C1 downgrade X f r none o.o\n", 6, Why::Name),
     (b"do C1 open X .. r none o\n", 6, Why::Name),
     (b"do C1 open X f/g r none o\n", 6, Why::Name),
     (b"do C1 open X f r none o.o\n", 6, Why::Name),
@@ -156,455 +234,143 @@ const BAD_LINES: [Refused; 112] = [
     (b"do C1 write X f 0 - o\n", 6, Why::Number),
     (b"do C1 size X f +1 o\n", 6, Why::Number),
     (b"do C1 size X f 18446744073709551616 o\n", 6, Why::Number),
+    // A line of the head behind one that is run is out of order, whatever it says.
+    (b"show X\nclient\n", 7, Why::Head),
 ];
 
-/// Sources with a bad head, each with its first bad line.
-const BAD_HEADS: [Refused; 39] = [
-    // Nothing at all, and heads that end too early.
-    (b"", 1, Why::Head),
-    (b"\n", 2, Why::Head),
-    (b"# a comment\n\n", 3, Why::Head),
-    (b"nfsmove 1", 2, Why::Head),
-    (b"nfsmove 1\nlease 90\n", 3, Why::Head),
-    (b"nfsmove 1\n\nlease 90\n#\n", 5, Why::Head),
-    // Lines out of order, which their first words alone decide.
-    (b"lease 90\n", 1, Why::Head),
-    (b"show X\n", 1, Why::Head),
-    (b" nfsmove 1\n", 1, Why::Head),
-    (b"nfsmove2\n", 1, Why::Head),
-    (b"nfsmove 1\nnfsmove 1\n", 2, Why::Head),
-    (b"nfsmove 1\nserver S1\n", 2, Why::Head),
-    (b"nfsmove 1\nlease 90\nalias A S1\n", 3, Why::Head),
-    (b"nfsmove 1\nlease 90\nfs X at S1\n", 3, Why::Head),
-    (b"nfsmove 1\nlease 90\nclient C1 7\n", 3, Why::Head),
-    (b"nfsmove 1\nlease 90\ndo C1 lock\n", 3, Why::Head),
-    (b"nfsmove 1\nlease 90\nserver S1\nlease 90\n", 4, Why::Head),
-    (
-        b"nfsmove 1\nlease 90\nserver S1\nclient C1 7\nfs X at S1\n",
-        5,
-        Why::Head,
-    ),
-    (
-        b"nfsmove 1\nlease 90\nserver S1\nfs X at S1\nserver S2\n",
-        5,
-        Why::Head,
-    ),
-    (
-        b"nfsmove 1\nlease 90\nserver S1\nfs X at S1\nshow X\nclient C1 7\n",
-        6,
-        Why::Head,
-    ),
-    // Words.
-    (b"nfsmove 2\n", 1, Why::Word),
-    (b"nfsmove\n", 1, Why::Word),
-    (b"nfsmove 1 \n", 1, Why::Word),
-    (b"nfsmove 1\nlease\n", 2, Why::Word),
-    (b"nfsmove 1\nlease  90\n", 2, Why::Word),
-    (b"nfsmove 1\nlease 90\nserver S1 tag 1\n", 3, Why::Word),
-    (b"nfsmove 1\nlease 90\nserver S1\nserver\n", 4, Why::Word),
-    (
-        b"nfsmove 1\nlease 90\nserver S1\nserver S1 S2\n",
-        4,
-        Why::Word,
-    ),
-    (
-        b"nfsmove 1\nlease 90\nserver S1\nfs X in S2\n",
-        4,
-        Why::Word,
-    ),
-    (
-        b"nfsmove 1\nlease 90\nserver S1\nfs X at S1\nfs X at\n",
-        5,
-        Why::Word,
-    ),
-    // Names, before numbers.
-    (b"nfsmove 1\nlease 90\nserver S1\nserver S1\n", 4, Why::Name),
-    (
-        b"nfsmove 1\nlease 90\nserver S1\nfs X at S1\nfs X at S1\n",
-        5,
-        Why::Name,
-    ),
-    (
-        b"nfsmove 1\nlease 90\nserver S1\nserver S2\nfs X at S3\n",
-        5,
-        Why::Name,
-    ),
-    (b"nfsmove 1\nlease 90\nserver S.1\n", 3, Why::Name),
-    (
-        b"nfsmove 1\nlease 90\nserver S1\nfs S1 at S1\n",
-        4,
-        Why::Name,
-    ),
-    (
-        b"nfsmove 1\nlease 90\nserver S1\nfs X at S2\n",
-        4,
-        Why::Name,
-    ),
-    (
-        b"nfsmove 1\nlease 90\nserver S1\nclient S1 +7\n",
-        4,
-        Why::Name,
-    ),
-    // Numbers and their bounds.
-    (b"nfsmove 1\nlease 0\n", 2, Why::Number),
-    (b"nfsmove 1\nlease 3601\nshow\n", 2, Why::Number),
-];
-
-#[test]
-fn bad_sources(rt: HostRuntime) -> Result<(), Fail> {
-    assert_eq!(rt; other(rt.alloc(), HEAD, &BAD_LINES)?, None);
-    assert_eq!(rt; other(rt.alloc(), b"", &BAD_HEADS)?, None);
-    Ok(())
-}
-
-/// What each kind of line says, with comments and empty lines between them, and with no line feed at the end.
-const STORY: &[u8] = b"# two servers\n\
-nfsmove 1\n\
-lease 3600\n\
-server S1\n\
-server abcdefghijklmnop\n\
-\n\
-fs home at S1\n\
-fs X at abcdefghijklmnop\n\
-#~ !\n\
-client C1 0\n\
-client c_2 18446744073709551615\n\
-do c_2 open home a.txt rw none o-2\n\
-do C1 create home ... r w o\n\
-do C1 close home ... o\n\
-do C1 read X f 18446744073709551615 65536 o\n\
-do c_2 read X f 0 0 o\n\
-do C1 write X f 7 00ff6869 o\n\
-do C1 size X f 18446744073709551615 o\n\
-do C1 remove home f\n\
-do C1 mkdir X d\n\
-do c_2 list X\n\
-do C1 finish\n\
-move X S1\n\
-freeze X\n\
-abandon X\n\
-commit X\n\
-settle home\n\
-shift home abcdefghijklmnop\n\
-show home";
-
-fn text(alloc: Global, text: &[u8]) -> Result<Bytes, Memory> {
-    Bytes::from_slice(alloc, text)
-}
-
-fn servers_of_story(alloc: Global) -> Result<ServerRows, Memory> {
-    let mut rows = Items::new(alloc);
-    for name in [b"S1".as_slice(), b"abcdefghijklmnop"] {
-        let name = text(alloc, name)?;
-        rows.push(ServerRow { name })?;
-    }
-    Ok(rows)
-}
-
-fn file_systems_of_story(alloc: Global) -> Result<FsRows, Fail> {
-    let mut rows = Items::new(alloc);
-    for (name, at) in [(b"home".as_slice(), 0), (b"X", 1)] {
-        let at = ServerNum::new(at).ok_or("a server")?;
-        let name = text(alloc, name)?;
-        rows.push(FsRow { name, at })?;
-    }
-    Ok(rows)
-}
-
-fn clients_of_story(alloc: Global) -> Result<ClientRows, Memory> {
-    let mut rows = Items::new(alloc);
-    for (name, verifier) in [(b"C1".as_slice(), 0), (b"c_2", u64::MAX)] {
-        let name = text(alloc, name)?;
-        rows.push(ClientRow { name, verifier })?;
-    }
-    Ok(rows)
-}
-
-fn open(
+/// The first of the texts that isn't refused so behind a front and parts, or the front where the text to be taken isn't.
+fn other(
     alloc: Global,
-    fs: FsNum,
-    file: &[u8],
-    access: u32,
-    deny: u32,
-    owner: &[u8],
-) -> Result<OpenAction, Memory> {
-    Ok(OpenAction {
-        fs,
-        file: text(alloc, file)?,
-        access,
-        deny,
-        owner: text(alloc, owner)?,
-    })
-}
-
-fn close(alloc: Global, fs: FsNum) -> Result<CloseAction, Memory> {
-    Ok(CloseAction {
-        fs,
-        file: text(alloc, b"...")?,
-        owner: text(alloc, b"o")?,
-    })
-}
-
-fn read(alloc: Global, fs: FsNum, offset: u64, count: u32) -> Result<ReadAction, Memory> {
-    Ok(ReadAction {
-        fs,
-        file: text(alloc, b"f")?,
-        offset,
-        count,
-        owner: text(alloc, b"o")?,
-    })
-}
-
-fn write(alloc: Global, fs: FsNum) -> Result<WriteAction, Memory> {
-    Ok(WriteAction {
-        fs,
-        file: text(alloc, b"f")?,
-        offset: 7,
-        data: text(alloc, b"\x00\xffhi")?,
-        owner: text(alloc, b"o")?,
-    })
-}
-
-fn size(alloc: Global, fs: FsNum) -> Result<SizeAction, Memory> {
-    Ok(SizeAction {
-        fs,
-        file: text(alloc, b"f")?,
-        size: u64::MAX,
-        owner: text(alloc, b"o")?,
-    })
-}
-
-fn on_name(alloc: Global, fs: FsNum, file: &[u8]) -> Result<NameAction, Memory> {
-    let file = text(alloc, file)?;
-    Ok(NameAction { fs, file })
-}
-
-/// What is done by the clients, from the first line on.
-fn action(alloc: Global, number: usize, home: FsNum, x: FsNum) -> Result<Action, Memory> {
-    Ok(match number {
-        0 => Action::Open(open(alloc, home, b"a.txt", 3, 0, b"o-2")?),
-        1 => Action::Create(open(alloc, home, b"...", 1, 2, b"o")?),
-        2 => Action::Close(close(alloc, home)?),
-        3 => Action::Read(read(alloc, x, u64::MAX, 65536)?),
-        4 => Action::Read(read(alloc, x, 0, 0)?),
-        5 => Action::Write(write(alloc, x)?),
-        6 => Action::Size(size(alloc, x)?),
-        7 => Action::Remove(on_name(alloc, home, b"f")?),
-        8 => Action::MkDir(on_name(alloc, x, b"d")?),
-        _ => Action::List(x),
-    })
-}
-
-/// Who does it.
-const BY: [u32; 10] = [1, 0, 0, 0, 1, 0, 0, 0, 0, 1];
-
-fn lines_of_story(alloc: Global) -> Result<Lines, Fail> {
-    let home = FsNum::new(0).ok_or("a file system")?;
-    let x = FsNum::new(1).ok_or("a file system")?;
-    let first = ServerNum::new(0).ok_or("a server")?;
-    let second = ServerNum::new(1).ok_or("a server")?;
-    let mut lines = Lines::new(alloc);
-    for number in 0..10 {
-        let action = action(alloc, number, home, x)?;
-        let client = BY[number];
-        lines.push(Line::Do { client, action })?;
+    front: &'static [u8],
+    parts: &Parts,
+    taken: &[u8],
+    refused: &[Refused],
+) -> Result<Option<&'static [u8]>, Memory> {
+    if fault_of(alloc, front, parts, taken)? != None {
+        return Ok(Some(front));
     }
-    for line in [
-        Line::Finish { client: 0 },
-        Line::Move { fs: x, to: first },
-        Line::Freeze(x),
-        Line::Abandon(x),
-        Line::Commit(x),
-        Line::Settle(home),
-        Line::Shift {
-            fs: home,
-            to: second,
-        },
-        Line::Show(home),
-    ] {
-        lines.push(line)?;
+    for (text, line, why) in refused {
+        if fault_of(alloc, front, parts, text)? != Some((*line, *why)) {
+            return Ok(Some(*text));
+        }
     }
-    Ok(lines)
-}
-
-/// What STORY says.
-fn story(alloc: Global) -> Result<Script, Fail> {
-    Ok(Script {
-        head: Head {
-            lease: 3600,
-            servers: servers_of_story(alloc)?,
-            file_systems: file_systems_of_story(alloc)?,
-            clients: clients_of_story(alloc)?,
-        },
-        lines: lines_of_story(alloc)?,
-    })
+    Ok(None)
 }
 
 #[test]
-fn each_kind_of_line(rt: HostRuntime) -> Result<(), Fail> {
-    let want = story(rt.alloc())?;
-    assert_eq!(rt; read_script(rt.alloc(), STORY), Ok(want));
-    // The least that a script may be.
+fn the_first_bad_line_is_told_and_its_first_fault(rt: HostRuntime) -> Result<(), Fail> {
     let least = b"nfsmove 1\nlease 1\nserver -_";
-    assert_eq!(rt; fault_of(rt.alloc(), least, b"")?, None);
-    Ok(())
-}
-
-/// A text again and again.
-fn repeated(alloc: Global, text: &[u8], times: usize) -> Result<Vec<u8>, Memory> {
-    let mut source = Vec::new(alloc);
-    for _ in 0..times {
-        source.extend_from_slice(text)?;
-    }
-    Ok(source)
-}
-
-/// What is wrong behind HEAD with a text that stands there so many times.
-fn fault_of_many(alloc: Global, line: &[u8], times: usize) -> Result<Option<(u64, Why)>, Memory> {
-    let lines = repeated(alloc, line, times)?;
-    fault_of(alloc, HEAD, &lines)
-}
-
-#[test]
-fn at_most_4000_lines(rt: HostRuntime) -> Result<(), Fail> {
-    let line = b"do C1 open X f r none o\n";
-    assert_eq!(rt; fault_of_many(rt.alloc(), line, 3995)?, None);
-    let past = Some((4001, Why::Limit));
-    assert_eq!(rt; fault_of_many(rt.alloc(), line, 3996)?, past);
-    // Comments and empty lines count, and an earlier fault comes first.
-    assert_eq!(rt; fault_of_many(rt.alloc(), b"#\n\n", 1998)?, past);
-    let name = Some((6, Why::Name));
-    assert_eq!(rt; fault_of_many(rt.alloc(), b"show Y\n", 3996)?, name);
-    Ok(())
-}
-
-/// What is wrong with a line behind HEAD of two texts, with that byte between them so many times.
-fn fault_of_long(
-    alloc: Global,
-    front: &[u8],
-    byte: u8,
-    times: usize,
-    end: &[u8],
-) -> Result<Option<(u64, Why)>, Memory> {
-    let mut line = Vec::from_slice(alloc, front)?;
-    line.extend_from_slice(&repeated(alloc, &[byte], times)?)?;
-    line.extend_from_slice(end)?;
-    fault_of(alloc, HEAD, &line)
-}
-
-#[test]
-fn long_lines(rt: HostRuntime) -> Result<(), Fail> {
-    // At most 4,096 bytes, and the limit comes before a byte that may not stand there.
-    assert_eq!(rt; fault_of_long(rt.alloc(), b"#", b' ', 4095, b"\n")?, None);
-    let limit = Some((6, Why::Limit));
-    assert_eq!(rt; fault_of_long(rt.alloc(), b"\x01", b' ', 4096, b"")?, limit);
-    // At most 1,024 bytes to write.
-    let front = b"do C1 write X f 0 ";
-    let number = Some((6, Why::Number));
-    assert_eq!(rt; fault_of_long(rt.alloc(), front, b'f', 2048, b" o")?, None);
-    assert_eq!(rt;
-        fault_of_long(rt.alloc(), front, b'f', 2047, b" o")?,
-        number
+    let others = (
+        other(rt.alloc(), b"", &NONE, least, &BAD_STARTS)?,
+        other(rt.alloc(), LEASED, &NONE, b"server -_", &BEHIND_LEASE)?,
+        other(rt.alloc(), SERVED, &NONE, b"", &BEHIND_SERVER)?,
+        other(rt.alloc(), HEAD, &NONE, b"", &BEHIND_HEAD)?,
     );
-    assert_eq!(rt;
-        fault_of_long(rt.alloc(), front, b'f', 2050, b" o")?,
-        number
-    );
+    assert_eq!(rt; others, (None, None, None, None));
     Ok(())
 }
+
+/// Behind HEAD 199,999 lines in all.
+const COMMENTS: Parts = (b"#", b"\n\n", 99_997);
+
+/// At most 200,000 lines, comments and empty ones among them.
+const BEHIND_COMMENTS: [Refused; 1] = [(b"show X\n\x01", 200_001, Why::Limit)];
+
+/// A line of 4,095 bytes, without its end.
+const COMMENT: Parts = (b"#", b"", 1365);
+
+/// At most 4,096 bytes in a line, and the limit comes before a byte that may not stand there.
+const BEHIND_COMMENT: [Refused; 2] = [(b"##\n", 6, Why::Limit), (b"\x01#", 6, Why::Limit)];
+
+/// The front of a line that writes.
+const WRITES: &[u8] =
+    b"nfsmove 1\nlease 90\nserver S1\nfs X at S1\nclient C1 7\ndo C1 write X f 0 ";
+
+/// 1,024 bytes of two digits each, which is as many as there may be.
+const DIGITS: Parts = (b"", b"", 1024);
+
+const BEHIND_DIGITS: [Refused; 2] = [(b"0 o", 6, Why::Number), (b"00 o", 6, Why::Number)];
 
 #[test]
-fn at_most_16_mib(rt: HostRuntime) -> Result<(), Fail> {
-    let long = Vec::from_elem(rt.alloc(), b'#', 16_777_217)?;
-    let first = Some((1, Why::Limit));
-    assert_eq!(rt; fault_of(rt.alloc(), b"", &long)?, first);
-    let sixth = Some((6, Why::Limit));
-    assert_eq!(rt; fault_of(rt.alloc(), HEAD, &long)?, sixth);
-    // The lines before it are judged as ever.
-    let number = Some((2, Why::Number));
-    let front = b"nfsmove 1\nlease 0\n";
-    assert_eq!(rt; fault_of(rt.alloc(), front, &long)?, number);
+fn lines_and_their_bytes_have_limits(rt: HostRuntime) -> Result<(), Fail> {
+    let others = (
+        other(rt.alloc(), HEAD, &COMMENTS, b"show X", &BEHIND_COMMENTS)?,
+        other(rt.alloc(), HEAD, &COMMENT, b"#\n", &BEHIND_COMMENT)?,
+        other(rt.alloc(), WRITES, &DIGITS, b" o", &BEHIND_DIGITS)?,
+    );
+    assert_eq!(rt; others, (None, None, None));
     Ok(())
 }
 
-/// Lines of a kind for the names `c000` and on, behind a front: a keyword, the name and the line's end.
-fn rows(
-    alloc: Global,
-    front: &[u8],
-    keyword: &[u8],
-    end: &[u8],
-    count: u8,
-) -> Result<Vec<u8>, Memory> {
-    let mut source = Vec::from_slice(alloc, front)?;
-    for n in 0..count {
-        source.extend_from_slice(keyword)?;
-        source.extend_from_slice(&[b'c', b'0' + n / 100, b'0' + n / 10 % 10, b'0' + n % 10])?;
-        source.extend_from_slice(end)?;
-    }
-    Ok(source)
-}
+/// As many servers as there may be: c00 to c15.
+const SERVERS: Parts = (b"server c", b"\n", 16);
 
-/// The front of a head with many servers.
-const LEASED: &[u8] = b"nfsmove 1\nlease 90\n";
-
-/// The front of a head with one server and many file systems or clients.
-const SERVED: &[u8] = b"nfsmove 1\nlease 90\nserver S1\n";
-
-/// Bad lines behind 16 servers. The limit comes before any other fault of its line, but out of order the line is of the head.
+/// Bad texts behind LEASED and SERVERS. The limit comes before any other fault of its line, but out of order the line is of
+/// the head.
 const BEHIND_SERVERS: [Refused; 7] = [
-    (b"server c016", 19, Why::Limit),
+    (b"server c16", 19, Why::Limit),
     (b"server", 19, Why::Limit),
-    (b"server c000", 19, Why::Limit),
+    (b"server c00", 19, Why::Limit),
     (b"server \x01 x", 19, Why::Limit),
     (b"lease 90", 19, Why::Head),
-    (b"fs X at c016", 19, Why::Name),
-    (b"fs X at c015\nserver S2", 20, Why::Head),
+    (b"fs X at c16", 19, Why::Name),
+    (b"fs X at c15\nserver S2", 20, Why::Head),
 ];
 
-/// Bad lines behind one server and 64 file systems.
+/// As many file systems as there may be: c00 to c63.
+const FILE_SYSTEMS: Parts = (b"fs c", b" at S1\n", 64);
+
+/// Bad texts behind SERVED and FILE_SYSTEMS.
 const BEHIND_FILE_SYSTEMS: [Refused; 6] = [
-    (b"fs c064 at S1", 68, Why::Limit),
+    (b"fs c64 at S1", 68, Why::Limit),
     (b"fs", 68, Why::Limit),
-    (b"fs c000 in \x01", 68, Why::Limit),
+    (b"fs c00 in \x01", 68, Why::Limit),
     (b"server S2", 68, Why::Head),
-    (b"show c064", 68, Why::Name),
+    (b"show c64", 68, Why::Name),
     (b"client C1 1\nfs X at S1", 69, Why::Head),
 ];
 
-/// Bad lines behind one server and 64 clients.
+/// As many clients as there may be: c00 to c63.
+const CLIENTS: Parts = (b"client c", b" 1\n", 64);
+
+/// Bad texts behind SERVED and CLIENTS.
 const BEHIND_CLIENTS: [Refused; 7] = [
-    (b"client c064 1", 68, Why::Limit),
+    (b"client c64 1", 68, Why::Limit),
     (b"client", 68, Why::Limit),
     (b"client \x01 x", 68, Why::Limit),
     (b"server S2", 68, Why::Head),
     (b"clients", 68, Why::Word),
-    (b"do c000 close X f o", 68, Why::Name),
+    (b"do c00 close X f o", 68, Why::Name),
     (b"show\nclient C1 7", 68, Why::Word),
 ];
 
-/// Whether so many rows make a head, and what else stands behind them is refused as the table says.
-fn other_behind(
-    alloc: Global,
-    source: &[u8],
-    table: &[Refused],
-) -> Result<Option<&'static [u8]>, Memory> {
-    if fault_of(alloc, source, b"")? != None {
-        return Ok(Some(b""));
-    }
-    other(alloc, source, table)
-}
-
 #[test]
 fn at_most_16_servers_and_64_others(rt: HostRuntime) -> Result<(), Fail> {
-    let alloc = rt.alloc();
-    let source = rows(alloc, LEASED, b"server ", b"\n", 16)?;
-    assert_eq!(rt; other_behind(alloc, &source, &BEHIND_SERVERS)?, None);
-    let source = rows(alloc, SERVED, b"fs ", b" at S1\n", 64)?;
-    assert_eq!(rt; other_behind(alloc, &source, &BEHIND_FILE_SYSTEMS)?, None);
-    let source = rows(alloc, SERVED, b"client ", b" 1\n", 64)?;
-    assert_eq!(rt; other_behind(alloc, &source, &BEHIND_CLIENTS)?, None);
-    // A line of the head behind one that is run is out of order, whatever it says.
-    let head = Some((7, Why::Head));
-    assert_eq!(rt; fault_of(alloc, HEAD, b"show X\nclient\n")?, head);
+    let others = (
+        other(rt.alloc(), LEASED, &SERVERS, b"", &BEHIND_SERVERS)?,
+        other(rt.alloc(), SERVED, &FILE_SYSTEMS, b"", &BEHIND_FILE_SYSTEMS)?,
+        other(rt.alloc(), SERVED, &CLIENTS, b"", &BEHIND_CLIENTS)?,
+    );
+    assert_eq!(rt; others, (None, None, None));
+    Ok(())
+}
+
+/// 16 MiB, in 131,072 lines.
+const LONG: Parts = (
+    b"#--------------------------------------------------------------\
+      --------------------------------------------------------------",
+    b"\n",
+    131_072,
+);
+
+#[test]
+fn at_most_16_mib_are_read(rt: HostRuntime) -> Result<(), Fail> {
+    // The line in which the first byte past them stands is bad, and those before it are judged as ever.
+    let faults = (
+        fault_of(rt.alloc(), HEAD, &LONG, b"")?,
+        fault_of(rt.alloc(), b"nfsmove 1\nlease 0\n", &LONG, b"")?,
+    );
+    let wanted = (Some((131_077, Why::Limit)), Some((2, Why::Number)));
+    assert_eq!(rt; faults, wanted);
     Ok(())
 }

@@ -1,4 +1,4 @@
-use super::{append_line_text, fault_text, held_text, line_text, usage_text};
+use super::{fault_text, held_text, line_text, usage_text};
 use crate::{
     HeldReport, IdleRow, MoveNames, MoveRow, MoveTold, Names, OutcomeRow, PhaseNow, PhaseReport,
     Report, ReportRow, Told, Why,
@@ -12,13 +12,6 @@ use std::test::Fail;
 
 fn bytes(alloc: Global, text: &[u8]) -> Result<Bytes, Memory> {
     Items::from_slice(alloc, text)
-}
-
-/// A report of that row alone.
-fn report(alloc: Global, row: ReportRow) -> Result<Report, Memory> {
-    let mut report = Items::new(alloc);
-    report.push(row)?;
-    Ok(report)
 }
 
 fn read(alloc: Global, data: &[u8], eof: bool) -> Result<Told, Memory> {
@@ -53,35 +46,9 @@ fn told(alloc: Global, number: usize) -> Result<(Verb, Told), Memory> {
         13 => (Verb::Read, read(alloc, b"", false)?),
         14 => (Verb::List, listed(alloc, &[b"d", b"e"])?),
         15 => (Verb::List, listed(alloc, &[b"a.txt"])?),
-        _ => (Verb::List, listed(alloc, &[])?),
+        16 => (Verb::List, listed(alloc, &[])?),
+        _ => (Verb::Downgrade, Told::Answered(OpStatus::Inval)),
     })
-}
-
-fn outcome(alloc: Global, number: usize) -> Result<Report, Memory> {
-    let client = bytes(alloc, b"C1")?;
-    let (verb, told) = told(alloc, number)?;
-    let row = OutcomeRow { client, verb, told };
-    report(alloc, ReportRow::Outcome(row))
-}
-
-fn outcomes(alloc: Global) -> Result<Vec<u8>, Memory> {
-    let mut out = Vec::new(alloc);
-    for number in 0..17 {
-        append_line_text(&mut out, &outcome(alloc, number)?)?;
-    }
-    Ok(out)
-}
-
-#[test]
-fn what_a_client_was_told(rt: HostRuntime) -> Result<(), Fail> {
-    let text = outcomes(rt.alloc())?;
-    let wanted = b"C1 create OK\nC1 open SHARE_DENIED\nC1 close DELAY\nC1 create REFUSED STALE\n\
-        C1 close NOSTATE\nC1 remove BUSY\nC1 mkdir DELAY\nC1 size STOPPED\n\
-        C1 write OK 2\nC1 write OK 4294967295\n\
-        C1 read OK 6869 eof\nC1 read OK 007fff more\nC1 read OK - eof\nC1 read OK - more\n\
-        C1 list OK d e\nC1 list OK a.txt\nC1 list OK\n";
-    assert_eq!(rt; text.as_slice(), wanted.as_slice());
-    Ok(())
 }
 
 fn move_from_s1(alloc: Global, number: u64) -> Result<MoveNames, Memory> {
@@ -123,41 +90,6 @@ fn move_told(alloc: Global, number: usize) -> Result<MoveTold, Memory> {
     })
 }
 
-/// The rows of moves, by numbers: a phase, then what comes of a move, and then those that have nothing to tell.
-fn move_row(alloc: Global, number: usize) -> Result<ReportRow, Memory> {
-    if number == 18 {
-        return Ok(ReportRow::NoPacket);
-    }
-    let file_system = bytes(alloc, b"X")?;
-    if number < 4 {
-        let phase = phase(alloc, number)?;
-        return Ok(ReportRow::Phase(PhaseReport { file_system, phase }));
-    }
-    let told = move_told(alloc, number - 4)?;
-    Ok(ReportRow::Move(MoveRow { file_system, told }))
-}
-
-fn move_rows(alloc: Global) -> Result<Vec<u8>, Memory> {
-    let mut out = Vec::new(alloc);
-    for number in 0..19 {
-        let row = move_row(alloc, number)?;
-        append_line_text(&mut out, &report(alloc, row)?)?;
-    }
-    Ok(out)
-}
-
-#[test]
-fn moves_by_their_phases_and_what_came_of_them(rt: HostRuntime) -> Result<(), Fail> {
-    let text = move_rows(rt.alloc())?;
-    let wanted = b"X at S1\nX closing S1 S2 move 1\nX frozen S1 S2 move 2\n\
-        X passing S1 S2 move 18446744073709551615\n\
-        X notserved\nX busy 1\nX same\nX last\nX waiting 2\nX idle\nX back S1\nX late S2\n\
-        X refused BADIMAGE 128\nX refused OLD 1\nX refused LIVE\nX refused DIFFERS 7 8\nX refused FULL\n\
-        X refused ABSENT\nno packet\n";
-    assert_eq!(rt; text.as_slice(), wanted.as_slice());
-    Ok(())
-}
-
 fn opened(
     alloc: Global,
     file: &[u8],
@@ -178,44 +110,103 @@ fn opened(
     })
 }
 
+/// What is held: of a file by an owner, with access and deny, which may be any numbers.
+const HELD: [(&[u8], &[u8], u32, u32); 5] = [
+    (b"f", b"C2/p", 1, 0),
+    (b"g.txt", b"C1/o", 3, 2),
+    (b"f", b"C2/q", 2, 1),
+    (b"f", b"C2/r", 0, 3),
+    (b"f", b"C2/s", 4294967295, 4),
+];
+
 fn table(alloc: Global) -> Result<HeldTable, Fail> {
     let mut table = Items::new(alloc);
-    table.push(opened(alloc, b"f", b"C2/p", 1, 0)?)?;
-    table.push(opened(alloc, b"g.txt", b"C1/o", 3, 2)?)?;
+    for (file, owner, access, deny) in &HELD {
+        table.push(opened(alloc, file, owner, *access, *deny)?)?;
+    }
     Ok(table)
 }
 
-/// The same table through the row of a report, and without one.
-fn held(alloc: Global, number: usize) -> Result<Vec<u8>, Fail> {
-    let table = table(alloc)?;
-    let phase = phase(alloc, number)?;
-    if number == 0 {
-        let file_system = bytes(alloc, b"X")?;
-        let row = HeldReport {
-            file_system,
-            phase,
-            table,
-        };
-        return Ok(line_text(alloc, &report(alloc, ReportRow::Held(row))?)?);
+fn outcome(alloc: Global, number: usize) -> Result<ReportRow, Memory> {
+    let client = bytes(alloc, b"C1")?;
+    let (verb, told) = told(alloc, number)?;
+    Ok(ReportRow::Outcome(OutcomeRow { client, verb, told }))
+}
+
+/// The rows on file systems, by numbers: the phases, what comes of moves, and what is held.
+fn file_system_row(alloc: Global, number: usize) -> Result<ReportRow, Fail> {
+    let file_system = bytes(alloc, b"X")?;
+    Ok(match number {
+        0..=3 => {
+            let phase = phase(alloc, number)?;
+            ReportRow::Phase(PhaseReport { file_system, phase })
+        }
+        4..=17 => {
+            let told = move_told(alloc, number - 4)?;
+            ReportRow::Move(MoveRow { file_system, told })
+        }
+        _ => {
+            let phase = phase(alloc, 1)?;
+            let table = table(alloc)?;
+            ReportRow::Held(HeldReport {
+                file_system,
+                phase,
+                table,
+            })
+        }
+    })
+}
+
+/// Each form of row.
+fn report(alloc: Global) -> Result<Report, Fail> {
+    let mut report = Items::new(alloc);
+    for number in 0..18 {
+        report.push(outcome(alloc, number)?)?;
     }
+    report.push(ReportRow::Idle(IdleRow {
+        client: bytes(alloc, b"C9")?,
+    }))?;
+    for number in 0..19 {
+        report.push(file_system_row(alloc, number)?)?;
+    }
+    report.push(ReportRow::NoPacket)?;
+    Ok(report)
+}
+
+const TEXT: &[u8] = b"C1 create OK\nC1 open SHARE_DENIED\nC1 close DELAY\nC1 create REFUSED STALE\n\
+    C1 close NOSTATE\nC1 remove BUSY\nC1 mkdir DELAY\nC1 size STOPPED\n\
+    C1 write OK 2\nC1 write OK 4294967295\n\
+    C1 read OK 6869 eof\nC1 read OK 007fff more\nC1 read OK - eof\nC1 read OK - more\n\
+    C1 list OK d e\nC1 list OK a.txt\nC1 list OK\nC1 downgrade INVAL\nC9 idle\n\
+    X at S1\nX closing S1 S2 move 1\nX frozen S1 S2 move 2\n\
+    X passing S1 S2 move 18446744073709551615\n\
+    X notserved\nX busy 1\nX same\nX last\nX waiting 2\nX idle\nX back S1\nX late S2\n\
+    X refused BADIMAGE 128\nX refused OLD 1\nX refused LIVE\nX refused DIFFERS 7 8\nX refused FULL\n\
+    X refused ABSENT\n\
+    X closing S1 S2 move 1\n  open f C2/p r none\n  open g.txt C1/o rw w\n  open f C2/q w r\n\
+    \x20 open f C2/r 0 rw\n  open f C2/s 4294967295 4\nno packet\n";
+
+#[test]
+fn each_row_is_printed_on_lines_of_its_own(rt: HostRuntime) -> Result<(), Fail> {
+    let report = report(rt.alloc())?;
+    let text = line_text(rt.alloc(), &report)?;
+    assert_eq!(rt; text.as_slice(), TEXT);
+    Ok(())
+}
+
+/// What is held, at S1.
+fn held(alloc: Global) -> Result<Vec<u8>, Fail> {
+    let phase = phase(alloc, 0)?;
+    let table = table(alloc)?;
     Ok(held_text(alloc, b"X", &phase, &table)?)
 }
 
-fn idle(alloc: Global) -> Result<Vec<u8>, Memory> {
-    let client = bytes(alloc, b"C9")?;
-    line_text(alloc, &report(alloc, ReportRow::Idle(IdleRow { client }))?)
-}
-
 #[test]
-fn tables_and_idle_clients(rt: HostRuntime) -> Result<(), Fail> {
-    let text = held(rt.alloc(), 0)?;
-    let wanted = b"X at S1\n  open f C2/p r none\n  open g.txt C1/o rw w\n";
+fn what_is_held_is_printed_by_itself(rt: HostRuntime) -> Result<(), Fail> {
+    let text = held(rt.alloc())?;
+    let wanted = b"X at S1\n  open f C2/p r none\n  open g.txt C1/o rw w\n  open f C2/q w r\n\
+        \x20 open f C2/r 0 rw\n  open f C2/s 4294967295 4\n";
     assert_eq!(rt; text.as_slice(), wanted.as_slice());
-    let text = held(rt.alloc(), 1)?;
-    let wanted = b"X closing S1 S2 move 1\n  open f C2/p r none\n  open g.txt C1/o rw w\n";
-    assert_eq!(rt; text.as_slice(), wanted.as_slice());
-    let text = idle(rt.alloc())?;
-    assert_eq!(rt; text.as_slice(), b"C9 idle\n".as_slice());
     Ok(())
 }
 
@@ -229,8 +220,8 @@ const FAULTS: [(u64, Why, &[u8]); 6] = [
 ];
 
 /// The first of the faults whose text is another.
-fn other_text(alloc: Global, table: &[(u64, Why, &'static [u8])]) -> Result<Option<u64>, Memory> {
-    for (line, why, wanted) in table {
+fn other_text(alloc: Global) -> Result<Option<u64>, Memory> {
+    for (line, why, wanted) in &FAULTS {
         if fault_text(alloc, *line, *why)?.as_slice() != *wanted {
             return Ok(Some(*line));
         }
@@ -240,9 +231,9 @@ fn other_text(alloc: Global, table: &[(u64, Why, &'static [u8])]) -> Result<Opti
 
 #[test]
 fn a_refused_script_names_the_line_and_why(rt: HostRuntime) -> Result<(), Fail> {
-    assert_eq!(rt; other_text(rt.alloc(), &FAULTS)?, None);
-    let text = usage_text(rt.alloc())?;
+    let usage = usage_text(rt.alloc())?;
+    let others = (other_text(rt.alloc())?, usage.as_slice());
     let wanted = b"usage: nfsmove replay | nfsmove live\n";
-    assert_eq!(rt; text.as_slice(), wanted.as_slice());
+    assert_eq!(rt; others, (None, wanted.as_slice()));
     Ok(())
 }
