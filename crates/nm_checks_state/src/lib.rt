@@ -10,4 +10,10 @@ mod shares;
 #[cfg(test)]
 mod slot;
 #[cfg(test)]
+mod state_files;
+#[cfg(test)]
+mod state_opens;
+#[cfg(test)]
+mod state_steps;
+#[cfg(test)]
 mod tree;

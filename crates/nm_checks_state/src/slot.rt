@@ -291,7 +291,7 @@ enum Door {
 fn door_of(answer: &Enter) -> Door {
     match answer {
         Enter::Entered(pass) => Door::Entered {
-            epoch: pass.epoch.number(),
+            epoch: pass.epoch().number(),
         },
         Enter::Full { .. } => Door::Full,
         Enter::Delay => Door::Delay,
@@ -414,17 +414,22 @@ fn done(place: u64) -> Result<Called, Memory> {
     Ok(Called::Done(place, OpStatus::Nfs4Ok))
 }
 
-fn pass(epoch: u64) -> Result<FsPass, Fail> {
-    Ok(FsPass {
-        fs: x()?,
-        epoch: Epoch::new(epoch),
-    })
+// A pass of epoch 0, which another slot of X gave.
+fn first_pass(rt: &impl Abort, alloc: Global) -> Result<FsPass, Fail> {
+    let mut slot = slot_in(rt, alloc, Made::Serving)?;
+    Ok(enter(rt, &mut slot))
+}
+
+// A pass of epoch 1, which another slot of X gave.
+fn second_pass(rt: &impl Abort, alloc: Global) -> Result<FsPass, Fail> {
+    let mut slot = moved_here(rt, alloc, 1, 1, 0)?;
+    Ok(enter(rt, &mut slot))
 }
 
 #[test]
 fn calls_are_made_until_the_freeze(rt: HostRuntime) -> Result<(), Fail> {
     let alloc = rt.alloc();
-    let (here, dest, pass) = (server(0)?, server(1)?, pass(0)?);
+    let (here, dest, pass) = (server(0)?, server(1)?, first_pass(&rt, alloc)?);
     let (first, second) = (
         open(alloc, client(b"A")?, 1)?,
         open(alloc, client(b"A")?, 2)?,
@@ -452,7 +457,7 @@ fn open_by(
 
 // A slot that is frozen for its move 1, in which B and then A have a file open.
 fn opened_and_frozen(rt: &impl Abort, alloc: Global) -> Result<Slot, Fail> {
-    let (here, dest, pass) = (server(0)?, server(1)?, pass(0)?);
+    let (here, dest, pass) = (server(0)?, server(1)?, first_pass(&rt, alloc)?);
     let (a, b) = (client(b"A")?, client(b"B")?);
     let mut slot = slot_in(rt, alloc, Made::Serving)?;
     assert_eq!(rt; open_by(alloc, &mut slot, &pass, b, 1), done(1));
@@ -514,7 +519,11 @@ fn an_offer_is_installed_once(rt: HostRuntime) -> Result<(), Fail> {
 #[test]
 fn the_state_goes_on_at_the_destination(rt: HostRuntime) -> Result<(), Fail> {
     let alloc = rt.alloc();
-    let (a, old, new) = (client(b"A")?, pass(0)?, pass(1)?);
+    let (a, old, new) = (
+        client(b"A")?,
+        first_pass(&rt, alloc)?,
+        second_pass(&rt, alloc)?,
+    );
     let mut slot = offered(&rt, alloc)?;
     assert_eq!(rt; slot.install(MoveNum::new(1)), Install::Now);
     assert_eq!(rt; (slot.epoch().number(), slot.count()), (1, 2));
@@ -603,7 +612,7 @@ fn a_move_needs_next_numbers(rt: HostRuntime) -> Result<(), Fail> {
 fn the_last_entry_leaves_room_for_ends(rt: HostRuntime) -> Result<(), Fail> {
     let alloc = rt.alloc();
     let few = END - (1 << 17);
-    let pass = pass(1)?;
+    let pass = second_pass(&rt, alloc)?;
     let asked = open(alloc, client(b"A")?, 1)?;
     let mut slot = moved_here(&rt, alloc, 1, 1, few - 1)?;
     assert_eq!(rt; call(&mut slot, &pass, &asked), done(few));

@@ -10,8 +10,6 @@ mod closes;
 mod confirms;
 mod data;
 mod entries;
-#[cfg(test)]
-mod file_tests;
 mod holders;
 mod listing;
 mod making;
@@ -23,10 +21,6 @@ mod setting;
 mod shown;
 mod state;
 mod stateids;
-#[cfg(test)]
-mod steps;
 mod tables;
-#[cfg(test)]
-mod tests;
 
 pub use state::FsState;

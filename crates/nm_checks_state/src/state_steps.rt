@@ -1,11 +1,11 @@
 //! Short words for events on one file system, for tests. Each client is one letter.
-use crate::FsState;
 use nm_rules::{
     AccessArgs, Bytes, Call, Claim, CloseArgs, CommitArgs, CreateArgs, CreateType, Deed, Event,
     Fattr, FsNum, GetAttrArgs, Instance, Items, LookupArgs, OpStatus, OpenArgs, OpenConfirmArgs,
     OpenDowngradeArgs, OpenType, Principal, ReadArgs, ReadDirArgs, RemoveArgs, Reply, ReplyValue,
     SetAttrArgs, Stable, StateId, StateRef, Verdict, WriteArgs,
 };
+use nm_state::FsState;
 use std::alloc::Global;
 use std::test::Fail;
 

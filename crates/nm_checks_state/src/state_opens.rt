@@ -1,5 +1,5 @@
 //! Opens on one file system, with expected answers from RFC 7530, 9.1.7, 9.9, 16.2, 16.16, 16.18 and 16.19.
-use crate::steps::{
+use crate::state_steps::{
     How, Row, Step, What, client, first_other_of, go, last_value, no_files, open, stateid,
 };
 use nm_rules::{

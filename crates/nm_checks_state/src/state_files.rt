@@ -1,5 +1,5 @@
 //! Names and data on one file system, with expected answers from RFC 7530, 5, 12 and 16.
-use crate::steps::{How, Row, Step, What, first_other_of, last_value};
+use crate::state_steps::{How, Row, Step, What, first_other_of, last_value};
 use nm_rules::{
     AccessOk, ChangeInfo, CreateOk, Created, FileAttrs, GetAttrOk, Items, OpStatus, ReplyValue,
     StateId, StateRef,
