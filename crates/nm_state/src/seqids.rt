@@ -3,7 +3,7 @@ ghost use Rattle.std.specs.Prelude.{◌≡◌, ◌<◌, Some, IfOk, OnOk, nat_le
 ghost use Rattle.nm_rules.specs.Answer.{refused_value, reply_with};
 ghost use Rattle.nm_rules.specs.Opens.{rows_limit, rows_taken};
 ghost use Rattle.nm_rules.specs.Past.{noted_row, opener};
-ghost use Rattle.nm_rules.specs.Seqids.{advances, owner_at, seqid_of};
+ghost use Rattle.nm_rules.specs.Seqids.{owner_at, seqid_of};
 ghost use Rattle.nm_rules.specs.Seqids.OwnerWord.{Noted};
 ghost use Rattle.nm_rules.specs.Stateids.{owner_stop};
 ghost use Rattle.nm_rules.specs.declared.calls.Deed.TheVariants.{Open as OpenDeed};
@@ -29,24 +29,6 @@ pub enum Turn {
     Answered(Reply),
     /// It is, and this owner moves on by it.
     Of(Owner),
-}
-
-// Whether an operation that takes a seqid moves its owner on, by its status.
-#[tactic(auto, unfolding(nm_rules::specs::Seqids::advances))]
-fn advances(status: OpStatus) -> bool
-    ensures { result ≡ advances status }
-{
-    match status {
-        OpStatus::StaleClientId
-        | OpStatus::StaleStateId
-        | OpStatus::BadStateId
-        | OpStatus::BadSeqid
-        | OpStatus::BadXdr
-        | OpStatus::Resource
-        | OpStatus::NoFileHandle
-        | OpStatus::Moved => false,
-        _ => true,
-    }
 }
 
 // The seqid that an operation takes.
@@ -193,7 +175,7 @@ impl Tables {
     ) -> Result<(), Memory>
         ensures { OnOk result (self.new ≡ after_noting (note_word self.old owner.now call.now reply.now closed) self.old) }
     {
-        if !advances(reply.status) {
+        if !reply.status.advances() {
             return Ok(());
         }
         self.keep(owner, call, reply, closed)
