@@ -291,17 +291,6 @@ const DIGITS: Parts = (b"", b"", 1024);
 
 const BEHIND_DIGITS: [Refused; 2] = [(b"0 o", 6, Why::Number), (b"00 o", 6, Why::Number)];
 
-#[test]
-fn lines_and_their_bytes_have_limits(rt: HostRuntime) -> Result<(), Fail> {
-    let others = (
-        other(rt.alloc(), HEAD, &COMMENTS, b"show X", &BEHIND_COMMENTS)?,
-        other(rt.alloc(), HEAD, &COMMENT, b"#\n", &BEHIND_COMMENT)?,
-        other(rt.alloc(), WRITES, &DIGITS, b" o", &BEHIND_DIGITS)?,
-    );
-    assert_eq!(rt; others, (None, None, None));
-    Ok(())
-}
-
 /// As many servers as there may be: c00 to c15.
 const SERVERS: Parts = (b"server c", b"\n", 16);
 
@@ -345,13 +334,16 @@ const BEHIND_CLIENTS: [Refused; 7] = [
 ];
 
 #[test]
-fn at_most_16_servers_and_64_others(rt: HostRuntime) -> Result<(), Fail> {
+fn each_limit_is_taken_and_no_more(rt: HostRuntime) -> Result<(), Fail> {
     let others = (
+        other(rt.alloc(), HEAD, &COMMENTS, b"show X", &BEHIND_COMMENTS)?,
+        other(rt.alloc(), HEAD, &COMMENT, b"#\n", &BEHIND_COMMENT)?,
+        other(rt.alloc(), WRITES, &DIGITS, b" o", &BEHIND_DIGITS)?,
         other(rt.alloc(), LEASED, &SERVERS, b"", &BEHIND_SERVERS)?,
         other(rt.alloc(), SERVED, &FILE_SYSTEMS, b"", &BEHIND_FILE_SYSTEMS)?,
         other(rt.alloc(), SERVED, &CLIENTS, b"", &BEHIND_CLIENTS)?,
     );
-    assert_eq!(rt; others, (None, None, None));
+    assert_eq!(rt; others, (None, None, None, None, None, None));
     Ok(())
 }
 
