@@ -426,23 +426,6 @@ fn second_pass(rt: &impl Abort, alloc: Global) -> Result<FsPass, Fail> {
     Ok(enter(rt, &mut slot))
 }
 
-#[test]
-fn calls_are_made_until_the_freeze(rt: HostRuntime) -> Result<(), Fail> {
-    let alloc = rt.alloc();
-    let (here, dest, pass) = (server(0)?, server(1)?, first_pass(&rt, alloc)?);
-    let (first, second) = (
-        open(alloc, client(b"A")?, 1)?,
-        open(alloc, client(b"A")?, 2)?,
-    );
-    let mut slot = slot_in(&rt, alloc, Made::Serving)?;
-    assert_eq!(rt; call(&mut slot, &pass, &first), done(1));
-    assert_eq!(rt; slot.begin(here, dest), Begin::Begun(MoveNum::new(1)));
-    assert_eq!(rt; call(&mut slot, &pass, &second), done(2));
-    assert_eq!(rt; slot.freeze(), Freeze::Frozen(MoveNum::new(1)));
-    assert_eq!(rt; call(&mut slot, &pass, &second), Ok(Called::Strayed(0, 0)));
-    Ok(())
-}
-
 // Opens `f` for a client, by its owner with that seqid.
 fn open_by(
     alloc: Global,
@@ -453,6 +436,23 @@ fn open_by(
 ) -> Result<Called, Memory> {
     let asked = open(alloc, caller, seqid)?;
     call(slot, pass, &asked)
+}
+
+#[test]
+fn calls_are_made_until_the_freeze(rt: HostRuntime) -> Result<(), Fail> {
+    let alloc = rt.alloc();
+    let (here, dest, pass) = (server(0)?, server(1)?, first_pass(&rt, alloc)?);
+    let a = client(b"A")?;
+    let mut slot = slot_in(&rt, alloc, Made::Serving)?;
+    assert_eq!(rt; open_by(alloc, &mut slot, &pass, a, 1), done(1));
+    assert_eq!(rt; slot.begin(here, dest), Begin::Begun(MoveNum::new(1)));
+    assert_eq!(rt; open_by(alloc, &mut slot, &pass, a, 2), done(2));
+    assert_eq!(rt; slot.freeze(), Freeze::Frozen(MoveNum::new(1)));
+    assert_eq!(rt;
+        open_by(alloc, &mut slot, &pass, a, 3),
+        Ok(Called::Strayed(0, 0))
+    );
+    Ok(())
 }
 
 // A slot that is frozen for its move 1, in which B and then A have a file open.

@@ -476,8 +476,9 @@ const HELD: [Step<'static>; 5] = [
 
 // The holders after so many of these, and how many rows there are.
 fn holders(alloc: Global, count: usize) -> Result<(Vec<Instance>, usize), Fail> {
+    let steps = HELD.as_slice().get(..count).ok_or("so many steps")?;
     let mut state = no_files(alloc)?;
-    go(alloc, &mut state, HELD.as_slice().split_at(count).0)?;
+    go(alloc, &mut state, steps)?;
     Ok((state.holders()?, state.rows()))
 }
 
