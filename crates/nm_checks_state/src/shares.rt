@@ -3,17 +3,9 @@ ghost use Rattle.std.specs.Prelude.{◌≡◌};
 ghost use Rattle.nm_rules.specs.Opens.{is_share};
 
 use nm_rules::{Bytes, FsNum, Instance, OpStatus, Owner, OwnerKind, Principal, Refusal};
-use nm_shares::{Shares, State};
+use nm_shares::{Shares, State, is_share};
 use std::alloc::Global;
 use std::test::Fail;
-
-// Access is 1 to 3, and deny 0 to 3.
-#[tactic(auto, unfolding(nm_rules::specs::Opens::is_share))]
-fn is_share(access: u32, deny: u32) -> bool
-    ensures { result ≡ is_share access deny }
-{
-    1 <= access && access <= 3 && deny <= 3
-}
 
 // An owner: the letter of its client, and its text.
 type Who = (u8, u8);

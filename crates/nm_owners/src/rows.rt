@@ -1,7 +1,7 @@
 //! Work on a list of owners.
 ghost use Rattle.std.specs.Prelude.{◌≡◌, [], ◌∷◌, IfOk, OnOk, OnErr, filter, not, option_copied, option_map, position};
 ghost use Rattle.nm_rules.specs.Owners.{same_owner};
-ghost use Rattle.nm_rules.specs.Past.{noted_row, confirms, is_done};
+ghost use Rattle.nm_rules.specs.Past.{noted_row, confirms};
 ghost use Rattle.nm_rules.specs.Seqids.{is_confirmed, judged, without_recalls, owner_at, put_owner, owners_after};
 ghost use Rattle.nm_rules.specs.Seqids.OwnerWord.{GoneOf};
 ghost use Rattle.nm_owners.specs.Rows.{is_of};
@@ -59,17 +59,6 @@ fn confirms(deed: &Deed) -> bool
     }
 }
 
-// Whether it was carried out.
-#[tactic(auto, unfolding(nm_rules::specs::Past::is_done))]
-fn is_done(status: OpStatus) -> bool
-    ensures { result ≡ is_done status }
-{
-    match status {
-        OpStatus::Nfs4Ok => true,
-        _ => false,
-    }
-}
-
 // The reply as it is kept: without delegations to recall.
 fn kept_reply(alloc: Global, reply: &Reply) -> Result<Reply, Memory>
     ensures { IfOk result (λ kept. kept ≡ without_recalls reply.now) }
@@ -91,7 +80,7 @@ fn noted(
 ) -> Result<OwnerRow, Memory>
     ensures { IfOk result (λ row. row ≡ noted_row (owner_at owner.now rows.now.items) owner.now seqid call.now reply.now) }
 {
-    let confirmed = confirmed(rows, owner) || confirms(&call.deed) && is_done(reply.status);
+    let confirmed = confirmed(rows, owner) || confirms(&call.deed) && reply.status.is_done();
     Ok(OwnerRow {
         owner: owner.copy()?,
         seqid,

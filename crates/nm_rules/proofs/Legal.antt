@@ -24,6 +24,7 @@ use Rattle.nm_rules.specs.Opens.{open_checks, GoesOpen, open_value, close_checks
 use Rattle.nm_rules.specs.Stateids.{open_named, resolved, unresolved_at, owner_stop, owner_stop_at, judged_stop}
 use Rattle.nm_rules.specs.Answer.{answer_to, reply_by, reply_with, refused_value, ok_value, checks, IsLegal}
 use Rattle.nm_rules.specs.Sound.{IsSound, rises, all_apart, files_rise}
+use Rattle.nm_rules.specs.declared.args.CreateArgs.{CreateArgs}
 use Rattle.nm_rules.specs.declared.args.OpenArgs.{OpenArgs}
 use Rattle.nm_rules.specs.declared.args.OpenType.{OpenType}
 use Rattle.nm_rules.specs.declared.args.OpenDowngradeArgs.{OpenDowngradeArgs}
@@ -46,9 +47,10 @@ use Rattle.nm_rules.specs.declared.calls.ReplyValue.TheVariants as told
 use Rattle.nm_rules.specs.declared.rows.FileRow.{FileRow}
 use Rattle.nm_rules.specs.declared.rows.OpenRow.{OpenRow}
 use Rattle.nm_rules.specs.declared.status.OpStatus.{OpStatus}
-use Rattle.nm_rules.specs.declared.status.OpStatus.TheVariants.{ShareDenied, Resource, Inval}
+use Rattle.nm_rules.specs.declared.status.OpStatus.TheVariants.{Exist, ShareDenied, Resource, Inval}
 use Rattle.nm_rules.proofs.Classes.{or_none, refuse_if-none, IsFree, all_free, first_repeats}
 use Rattle.nm_rules.proofs.FileRows.{stamped_keeps, edited_keeps, files_rise-map, files_rise-filter, files_rise-push}
+use Rattle.nm_rules.proofs.NameRows.{NamesNew, names-after}
 use Rattle.nm_rules.proofs.OpenRows.{and_parts, open_at-past, open_at-in, in-open_at, rises-filter, rises-put_new, rises-put_old}
 use Rattle.nm_rules.proofs.Apart.{all_apart-filter, all_apart-put, opened_suits, renewed_suits, narrowed_suits, open_of-in, Suits}
 use Rattle.nm_rules.proofs.Looks.{look-after_words}
@@ -284,16 +286,21 @@ tree_rises (Removed dir name) tree next rising =
 
 sound_same : (s : Seen) → IsSound s → IsSound (after_words s no_words)
 unfolding after_words opens_after tree_after
-sound_same s sound = record { rising = sound.rising; apart = sound.apart; numbers = sound.numbers }
+sound_same s sound = record { rising = sound.rising; apart = sound.apart; numbers = sound.numbers; names = sound.names }
 
 -- what an owner moves on to has no part in it
 sound_with : (s : Seen) (w : Words) (word : OwnerWord) → IsSound (after_words s w) → IsSound (after_words s (with_owners w word))
 unfolding after_words
-sound_with s w word sound = record { rising = sound.rising; apart = sound.apart; numbers = sound.numbers }
+sound_with s w word sound = record { rising = sound.rising; apart = sound.apart; numbers = sound.numbers; names = sound.names }
 
-sound_tree : (s : Seen) (word : TreeWord) → MakesNext word s.tree.last_file → IsSound s → IsSound (after_words s (record no_words { tree = word }))
+sound_tree : (s : Seen) (word : TreeWord) → MakesNext word s.tree.last_file → NamesNew word s.tree.table → IsSound s → IsSound (after_words s (record no_words { tree = word }))
 unfolding after_words opens_after
-sound_tree s word next sound = record { rising = sound.rising; apart = sound.apart; numbers = tree_rises word s.tree next sound.numbers }
+sound_tree s word next new sound = record {
+  rising = sound.rising;
+  apart = sound.apart;
+  numbers = tree_rises word s.tree next sound.numbers;
+  names = names-after word s.tree new sound.names;
+}
 
 sound_drop : (s : Seen) (word : OpenWord) (p : OpenRow → Bool) → opens_after word s.opens ≡ filter p s.opens → IsSound s
     → IsSound (after_words s (record no_words { opens = word }))
@@ -302,6 +309,7 @@ sound_drop s word p filters sound = record {
   rising = rw filters (rises-filter p 0 s.last s.opens sound.rising);
   apart = rw filters (all_apart-filter p s.opens sound.apart);
   numbers = sound.numbers;
+  names = sound.names;
 }
 
 -- the file that a claim names is found in what stands as in the tables
@@ -315,6 +323,14 @@ edits_or_not : (b : Bool) (dir number : ℕ) (edit : FileEdit) (last : ℕ) → 
 edits_or_not true dir number edit last = tt
 edits_or_not false dir number edit last = tt
 
+edits_no_name : (b : Bool) (dir number : ℕ) (edit : FileEdit) (rows : List FileRow) → NamesNew (cond b (Edited dir number edit) Untouched) rows
+edits_no_name true dir number edit rows = tt
+edits_no_name false dir number edit rows = tt
+
+edits_none_named : (b : Bool) (dir number : ℕ) (edit : FileEdit) (rows : List FileRow) → NamesNew (cond b Untouched (Edited dir number edit)) rows
+edits_none_named true dir number edit rows = tt
+edits_none_named false dir number edit rows = tt
+
 edits_unless : (b : Bool) (dir number : ℕ) (edit : FileEdit) (last : ℕ) → MakesNext (cond b Untouched (Edited dir number edit)) last
 edits_unless true dir number edit last = tt
 edits_unless false dir number edit last = tt
@@ -324,6 +340,17 @@ open_makes_next : (row : Option FileRow) (dir : ℕ) (name : Option (List ℕ)) 
 unfolding open_tree
 open_makes_next row dir name opentype None last = refl
 open_makes_next row dir name opentype (Some child) last = edits_or_not (cuts opentype) (parent_of row) child (Set (Some 0) None) last
+
+-- what an OPEN makes has a name that isn't there
+open_names_new : (rows : List FileRow) (row : Option FileRow) (dir : ℕ) (name : Option (List ℕ)) (opentype : OpenType) (number : ℕ)
+    → NamesNew (open_tree row dir name opentype (target_at rows dir name) number) rows
+unfolding open_tree target_at
+open_names_new rows row dir None opentype number = edits_no_name (cuts opentype) (parent_of row) number (Set (Some 0) None) rows
+open_names_new rows row dir (Some name) opentype number = by_target (child_at dir name rows) refl
+  where
+    by_target : (o : Option ℕ) → child_at dir name rows ≡ o → NamesNew (open_tree row dir (Some name) opentype o number) rows
+    by_target None none = none
+    by_target (Some child) found = edits_no_name (cuts opentype) (parent_of row) number (Set (Some 0) None) rows
 
 -- the words of an OPEN that acted, by the row that it puts
 sound_opened : (s : Seen) (party : Party) (file : ℕ) (args : OpenArgs) → IsSound s
@@ -343,6 +370,8 @@ sound_opened s party file args sound free =
       apart = subst (λ (r : OpenRow). all_apart (put_open r s.opens) ≡ true) (sym same) stays.apart;
       numbers = tree_rises _ s.tree
           (rw (claimed_is_target s.tree.table file (claimed_name args.claim)) (open_makes_next _ file (claimed_name args.claim) args.opentype (target s file args) s.tree.last_file)) sound.numbers;
+      names = names-after _ s.tree
+          (rw (claimed_is_target s.tree.table file (claimed_name args.claim)) (open_names_new s.tree.table _ file (claimed_name args.claim) args.opentype its_file)) sound.names;
     }
 
 -- the open that a stateid names is found by its counter
@@ -369,6 +398,7 @@ sound_put s old new same live suits sound = record {
   rising = rises-put_old 0 s.last s.opens new old sound.rising (rw same live);
   apart = all_apart-put 0 s.last new s.opens sound.rising sound.apart suits;
   numbers = sound.numbers;
+  names = sound.names;
 }
 
 sound_confirmed : (s : Seen) (o : Option OpenRow) → ((row : OpenRow) → o ≡ Some row → open_at row.counter s.opens ≡ Some row) → IsSound s
@@ -406,6 +436,25 @@ unfolding write_tree
 write_makes_none row file last args =
     edits_unless (is_empty (taken args.«data»)) (parent_of row) file (Wrote args.offset (taken args.«data»)) last
 
+set_names_none : (row : Option FileRow) (file : ℕ) (rows : List FileRow) (asks : Asks) (told_words : List ℕ) → NamesNew (set_tree row file asks told_words) rows
+unfolding set_tree
+set_names_none row file rows asks told_words = edits_none_named (is_empty told_words) (parent_of row) file (Set (asked_size asks) (asked_mode asks)) rows
+
+write_names_none : (row : Option FileRow) (file : ℕ) (rows : List FileRow) (args : WriteArgs) → NamesNew (write_tree row file args) rows
+unfolding write_tree
+write_names_none row file rows args = edits_none_named (is_empty (taken args.«data»)) (parent_of row) file (Wrote args.offset (taken args.«data»)) rows
+
+-- a CREATE that nothing stops makes a name that isn't there
+create_goes : (s : Seen) (dir : ℕ) (args : CreateArgs) (verdict : Verdict) → first (create_checks s dir args verdict) ≡ None → child_at dir args.name s.tree.table ≡ None
+unfolding create_checks
+create_goes s dir args verdict goes =
+    let free : IsFree (create_checks s dir args verdict) = all_free _ goes in
+    none_there (child_at dir args.name s.tree.table) (refuse_if-none _ Exist free.name)
+  where
+    none_there : (o : Option ℕ) → not (is_none o) ≡ false → o ≡ None
+    none_there None h = refl
+    none_there (Some number) h = absurd (true≢false h)
+
 -- the words of a call that nothing stops
 sound_goes : (s : Seen) (caller : Option Party) (file : ℕ) (verdict : Verdict) (d : Deed) → IsSound s
     → first (checks s caller file verdict d) ≡ None
@@ -414,7 +463,7 @@ unfolding open_checks changed_stateid create_value write_value
 sound_goes s caller file verdict (deed.Access _) sound goes = sound_same s sound
 sound_goes s caller file verdict (deed.Close args) sound goes = sound_closed s (open_named s args.stateid) sound
 sound_goes s caller file verdict (deed.Commit _) sound goes = sound_same s sound
-sound_goes s caller file verdict (deed.Create args) sound goes = sound_tree s (Made _) refl sound
+sound_goes s caller file verdict (deed.Create args) sound goes = sound_tree s (Made _) refl (create_goes s file args verdict goes) sound
 sound_goes s caller file verdict (deed.GetAttr _) sound goes = sound_same s sound
 sound_goes s caller file verdict (deed.Lookup _) sound goes = sound_same s sound
 sound_goes s caller file verdict deed.LookupP sound goes = sound_same s sound
@@ -425,9 +474,11 @@ sound_goes s caller file verdict (deed.OpenDowngrade args) sound goes =
     sound_narrowed s args (open_named s args.stateid) (named_is_live s args.stateid) (downgrade_goes s caller file args verdict goes) sound
 sound_goes s caller file verdict (deed.Read _) sound goes = sound_same s sound
 sound_goes s caller file verdict (deed.ReadDir _) sound goes = sound_same s sound
-sound_goes s caller file verdict (deed.Remove args) sound goes = sound_tree s (Removed file args.name) tt sound
-sound_goes s caller file verdict (deed.SetAttr args) sound goes = sound_tree s _ (set_makes_none _ file s.tree.last_file (asks_of args.attributes) _) sound
-sound_goes s caller file verdict (deed.Write args) sound goes = sound_tree s _ (write_makes_none _ file s.tree.last_file args) sound
+sound_goes s caller file verdict (deed.Remove args) sound goes = sound_tree s (Removed file args.name) tt tt sound
+sound_goes s caller file verdict (deed.SetAttr args) sound goes = sound_tree s _ (set_makes_none _ file s.tree.last_file (asks_of args.attributes) _)
+    (set_names_none _ file s.tree.table (asks_of args.attributes) _) sound
+sound_goes s caller file verdict (deed.Write args) sound goes = sound_tree s _ (write_makes_none _ file s.tree.last_file args)
+    (write_names_none _ file s.tree.table args) sound
 
 -- what a call that nothing stops leaves, with what its owner moves on to
 pub words-free : (s : Seen) (call : Call) (verdict : Verdict) → first (checks s call.caller call.file verdict call.deed) ≡ None
@@ -453,7 +504,7 @@ sound-after s (Asked call verdict) sound =
 -- The tables of a legal list are sound.
 pub sound-seen : (fs : ℕ) (grants : Bool) (es : Past) → IsLegal fs grants es → IsSound (seen fs grants es)
 unfolding seen
-sound-seen fs grants [] legal = record { rising = refl; apart = refl; numbers = refl }
+sound-seen fs grants [] legal = record { rising = refl; apart = refl; numbers = refl; names = refl }
 sound-seen fs grants (x ∷ earlier) legal =
     rw legal.0 (sound-after (seen fs grants earlier) x.event (sound-seen fs grants earlier legal.1))
 

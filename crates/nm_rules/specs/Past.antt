@@ -299,11 +299,11 @@ noted n call r (Some owner) = if advances r.status then Noted (noted_row (n.owne
 abbrev pub owner_word : Now → Call → Reply → OwnerWord
 owner_word n call r = if is_fresh (judgement n call) then noted n call r (seqid_owner n call.caller call.deed) else Stays
 
--- Only an entry that acts changes what is there and held. A fresh one moves its owner on, and one that came before changes
--- nothing. With its instance's end all that an owner holds goes.
 abbrev pub with_owners : Words → OwnerWord → Words
 with_owners w word = record w { owners = word }
 
+-- Only an entry that acts changes what is there and held. A fresh one moves its owner on, and one that came before changes
+-- nothing. With its instance's end all that an owner holds goes.
 unfoldable pub words : Now → Event → Reply → Words
 words n (Asked call verdict) r =
     with_owners (if acts n call r then deed_words n call.caller call.file call.deed r.value else no_words) (owner_word n call r)

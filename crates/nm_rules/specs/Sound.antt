@@ -1,9 +1,12 @@
 -- What holds of the tables of every legal list.
-use Rattle.std.specs.Prelude.{◌≡◌, ◌==◌, ◌&&◌, not, nat_lt, nat_le, ℕ, Bool, true, List, [], ◌∷◌, if◌then◌else◌}
+use Rattle.std.specs.Prelude.{◌≡◌, ◌==◌, ◌&&◌, not, nat_lt, nat_le, is_none, ℕ, Bool, true, List, [], ◌∷◌, if◌then◌else◌}
 use Rattle.std.specs.List.{list_all}
+use Rattle.nm_rules.specs.Contents.{is_named}
 use Rattle.nm_rules.specs.Owners.{same_owner}
+use Rattle.nm_rules.specs.Seqids.{owner_at}
 use Rattle.nm_rules.specs.Shares.{shares_conflict}
 use Rattle.nm_rules.specs.Seen.{Seen}
+use Rattle.nm_rules.specs.declared.owners.OwnerRow.{OwnerRow}
 use Rattle.nm_rules.specs.declared.rows.FileRow.{FileRow}
 use Rattle.nm_rules.specs.declared.rows.OpenRow.{OpenRow}
 
@@ -29,7 +32,26 @@ abbrev pub all_apart : List OpenRow → Bool
 all_apart [] = true
 all_apart (row ∷ rows) = list_all (are_apart row) rows && all_apart rows
 
+-- Two entries of one directory have different names.
+abbrev pub names_apart : FileRow → FileRow → Bool
+names_apart a b = if a.number == 1 then true else not (is_named a.parent a.name b)
+
+abbrev pub all_named_apart : List FileRow → Bool
+all_named_apart [] = true
+all_named_apart (row ∷ rows) = list_all (names_apart row) rows && all_named_apart rows
+
 pub record IsSound (s : Seen) : Type 0 where
   pub rising : rises 0 s.last s.opens ≡ true
   pub apart : all_apart s.opens ≡ true
   pub numbers : files_rise 0 s.tree.last_file s.tree.table ≡ true
+  pub names : all_named_apart s.tree.table ≡ true
+
+-- ---- owners
+
+abbrev pub is_known : List OwnerRow → OpenRow → Bool
+is_known owners row = not (is_none (owner_at row.owner owners))
+
+-- The owner of each open, live or closed by its owner's kept call, is known.
+pub record OwnersAreKnown (s : Seen) : Type 0 where
+  pub opens : list_all (is_known s.owners) s.opens ≡ true
+  pub closed : list_all (is_known s.owners) s.closed ≡ true

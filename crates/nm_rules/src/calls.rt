@@ -1,6 +1,7 @@
 //! Calls that reach a file system, their replies, and the entries that they leave.
 ghost use Rattle.std.specs.Prelude.{◌≡◌, ◌↔◌, IfOk, IsTrue};
 ghost use Rattle.nm_rules.specs.Owners.{same_owner};
+ghost use Rattle.nm_rules.specs.Seqids.{seqid_of};
 
 use crate::{
     AccessArgs, AccessOk, Bytes, ChangeInfo, CloseArgs, CommitArgs, CreateArgs, Created,
@@ -85,6 +86,22 @@ pub enum Deed {
     Remove(RemoveArgs),
     SetAttr(SetAttrArgs),
     Write(WriteArgs),
+}
+
+impl Deed {
+    /// The seqid of its owner that an operation takes (RFC 7530, 9.1.7). The others take none: 0.
+    #[tactic(auto, unfolding(crate::specs::Seqids::seqid_of))]
+    pub fn seqid(&self) -> u32
+        ensures { result ≡ seqid_of self.now }
+    {
+        match self {
+            Deed::Close(args) => args.seqid,
+            Deed::Open(args) => args.seqid,
+            Deed::OpenConfirm(args) => args.seqid,
+            Deed::OpenDowngrade(args) => args.seqid,
+            _ => 0,
+        }
+    }
 }
 
 /// One operation, as it reaches a file system.

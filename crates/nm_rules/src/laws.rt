@@ -4,12 +4,13 @@ ghost use Rattle.std.specs.Prelude.{◌≡◌, ◌≢◌, ◌≤◌, ◌<◌, �
 ghost use Rattle.nm_rules.specs.Contents.{file_at};
 ghost use Rattle.nm_rules.specs.FileReadings.{IsRead};
 ghost use Rattle.nm_rules.specs.declared.rows.FileRow.{FileRow as AnyRow};
+ghost use Rattle.nm_rules.specs.Opens.{rows_limit, rows_taken};
 ghost use Rattle.nm_rules.specs.OwnerReadings.{closed_of, counter_list, kept_close, owner_now, seqids_of};
 ghost use Rattle.nm_rules.specs.Past.{Past, now, judgement};
 ghost use Rattle.nm_rules.specs.Seqids.{owner_at};
 ghost use Rattle.nm_rules.specs.Seen.{Seen, seen, look, after};
 ghost use Rattle.nm_rules.specs.Answer.{answer, IsLegal};
-ghost use Rattle.nm_rules.specs.Sound.{IsSound};
+ghost use Rattle.nm_rules.specs.Sound.{IsSound, OwnersAreKnown};
 ghost use Rattle.nm_rules.specs.Parties.{Party};
 ghost use Rattle.nm_rules.specs.Holders.{holders, has_row, is_among, parties_rise};
 ghost use Rattle.nm_rules.specs.Readings.{share_of, share_in, AreCompatible};
@@ -48,9 +49,21 @@ pub fn stateids_are_counted()
         → makes es event (answer fs grants es event) ≡ true → TellsCounter (answer fs grants es event).value (stateids_made es + 1) }
 {}
 
-/// The tables of a legal list are sound: counters rise up to the last, and all opens may stand together.
+/// The tables of a legal list are sound: counters rise up to the last, all opens may stand together, and no two files of a
+/// directory have one name.
 pub fn legal_tables_are_sound()
     ensures { (fs : ℕ) (grants : Bool) (es : Past) → IsLegal fs grants es → IsSound (seen fs grants es) }
+{}
+
+/// The owner of each live open is known, and so is that of each open whose CLOSE is its owner's kept call: an open has no owner of
+/// whom nothing is kept.
+pub fn owners_of_opens_are_known()
+    ensures { (fs : ℕ) (grants : Bool) (es : Past) → IsLegal fs grants es → OwnersAreKnown (seen fs grants es) }
+{}
+
+/// No more than 65,536 rows are ever taken: owners that are known, live opens, and opens whose CLOSE is their owner's kept call.
+pub fn rows_stay_within_the_limit()
+    ensures { (fs : ℕ) (grants : Bool) (es : Past) → IsLegal fs grants es → rows_taken (seen fs grants es) ≤ rows_limit }
 {}
 
 /// The list of holders rises, so that none stands in it twice, and an instance is in it exactly where it has a row: an owner

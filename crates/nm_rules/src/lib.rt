@@ -9,6 +9,8 @@ mod copies;
 mod instance;
 mod items;
 mod laws;
+mod lock_laws;
+mod lock_rows;
 mod memory;
 mod numbers;
 mod owners;
@@ -38,9 +40,15 @@ pub use instance::{Instance, NameFault, Principal};
 pub use items::{Bytes, Items};
 pub use laws::{
     closed_opens_are_kept_closes, files_read_as_written, holders_have_rows, legal_tables_are_sound,
-    owners_are_kept_as_noted, repeats_change_nothing, rows_grow_by_two, seqids_are_apart,
-    shares_never_conflict, stateids_are_counted, tables_keep_shares, tables_show_what_stands,
+    owners_are_kept_as_noted, owners_of_opens_are_known, repeats_change_nothing, rows_grow_by_two,
+    rows_stay_within_the_limit, seqids_are_apart, shares_never_conflict, stateids_are_counted,
+    tables_keep_shares, tables_show_what_stands,
 };
+pub use lock_laws::{
+    barriers_are_least, joined_ranges_are_told_by_bytes, ranges_hold_bytes, ranges_never_conflict,
+    ranges_stay_joined,
+};
+pub use lock_rows::{held_locks_never_conflict, locks_are_held_at_bytes, locks_stand};
 pub use memory::{Memory, Refusal};
 pub use numbers::{Epoch, Era, FsNum, MoveNum, ServerNum};
 pub use owners::{Judgement, OwnerRow};
@@ -48,7 +56,7 @@ pub use results::{
     AccessOk, ChangeInfo, CreateOk, Created, DirEntry, FileAttrs, GetAttrOk, LockKind,
     OpenDelegation, OpenOk, Opened, ReadDirOk, ReadOk, WriteOk,
 };
-pub use rows::{FileKind, FileRow, OpenRow};
+pub use rows::{FileKind, FileLocks, FileRow, Held, LockRow, OpenRow};
 pub use status::OpStatus;
 pub use table::{HeldKind, HeldRow, HeldTable};
 pub use wire::{Handle, handles_are_read_as_written, stateids_are_read_as_written};

@@ -1,7 +1,7 @@
 //! The rows of a file system's tables.
 ghost use Rattle.std.specs.Prelude.{◌≡◌, IfOk};
 
-use crate::{Bytes, Memory, Owner};
+use crate::{Bytes, Items, LockKind, Memory, Owner};
 
 /// What a row of the tree is.
 #[derive(Clone, Copy, Debug, PartialEq, Eq)]
@@ -77,4 +77,51 @@ impl OpenRow {
             deny: self.deny,
         })
     }
+}
+
+/// A range of bytes of a file that a byte-range lock holds (RFC 7530, 9.2).
+#[derive(Clone, Copy, Debug, PartialEq, Eq)]
+pub struct Held {
+    /// The counter of the lock stateid that holds it.
+    pub owner: u64,
+    pub kind: LockKind,
+    /// Its first byte.
+    pub first: u64,
+    /// Its last byte, which isn't before the first. 2^64 - 1 reaches to the end of every file.
+    pub last: u64,
+}
+
+/// The stateid of a lock owner on a file (RFC 7530, 9.1.4 and 16.10).
+#[derive(Debug, PartialEq, Eq, Drop)]
+pub struct LockRow {
+    /// The counter of the stateid, from 1.
+    pub counter: u64,
+    /// The seqid of the stateid, from 1.
+    pub seqid: u32,
+    pub owner: Owner,
+    /// The counter of the open by which it came to be.
+    pub opened: u64,
+    pub file: u64,
+}
+
+impl LockRow {
+    /// The same row once more.
+    pub fn copy(&self) -> Result<LockRow, Memory>
+        ensures { IfOk result (λ row. row ≡ self.now) }
+    {
+        Ok(LockRow {
+            counter: self.counter,
+            seqid: self.seqid,
+            owner: self.owner.copy()?,
+            opened: self.opened,
+            file: self.file,
+        })
+    }
+}
+
+/// The locked ranges of a file, of all stateids on it.
+#[derive(Debug, PartialEq, Eq, Drop)]
+pub struct FileLocks {
+    pub file: u64,
+    pub ranges: Items<Held>,
 }

@@ -1,5 +1,6 @@
 //! The statuses of NFSv4.0 that this profile answers (RFC 7530, 13.1), each with its number.
 ghost use Rattle.std.specs.Prelude.{◌≡◌, IfSome, IsSome};
+ghost use Rattle.nm_rules.specs.Past.{is_done};
 ghost use Rattle.nm_rules.specs.Seqids.{advances};
 ghost use Rattle.nm_rules.specs.Statuses.{number_of, status_of};
 
@@ -156,6 +157,14 @@ impl OpStatus {
             10046 => Some(OpStatus::FileOpen),
             _ => None,
         }
+    }
+
+    /// Whether an operation with this status was carried out: it is OK.
+    #[tactic(auto, unfolding(crate::specs::Past::is_done))]
+    pub fn is_done(self) -> bool
+        ensures { result ≡ is_done self }
+    {
+        matches!(self, OpStatus::Nfs4Ok)
     }
 
     /// Whether an operation that takes an owner's seqid moves the owner on to the next one, with this status

@@ -5,6 +5,6 @@ mod rows;
 mod shares;
 mod state;
 
-pub use rows::{is_narrower, seqid_after};
+pub use rows::{is_narrower, is_share, seqid_after};
 pub use shares::Shares;
 pub use state::State;

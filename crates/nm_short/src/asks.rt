@@ -1,7 +1,6 @@
 //! What a client does with a file system.
 ghost use Rattle.std.specs.Prelude.{◌≡◌, ◌++◌, [], Some, None, IfOk, OnOk, map};
 ghost use Rattle.nm_rules.specs.Answer.{refused_value};
-ghost use Rattle.nm_rules.specs.Past.{is_done};
 ghost use Rattle.nm_rules.specs.declared.calls.Deed.TheVariants.{Open as OpenDeed, ReadDir as ReadDirDeed};
 ghost use Rattle.nm_rules.specs.declared.calls.Verdict.TheVariants.{Pass};
 ghost use Rattle.nm_slot.specs.Answers.{apply_answer};
@@ -201,14 +200,6 @@ fn add_names(names: &mut Names, value: &ReplyValue) -> Result<(), Memory>
     }
 }
 
-// Whether a call was carried out.
-#[tactic(auto, unfolding(nm_rules::specs::Past::is_done))]
-fn is_done(status: OpStatus) -> bool
-    ensures { result ≡ is_done status }
-{
-    matches!(status, OpStatus::Nfs4Ok)
-}
-
 // What a client is told of an OK.
 #[tactic(auto, unfolding(crate::specs::Requests::told_ok))]
 fn told_ok(value: ReplyValue, names: Names) -> Told
@@ -227,7 +218,7 @@ fn told_ok(value: ReplyValue, names: Names) -> Told
 fn told_by(reply: Reply, names: Names) -> Told
     ensures { result ≡ told_by reply names }
 {
-    if is_done(reply.status) {
+    if reply.status.is_done() {
         told_ok(reply.value, names)
     } else {
         Told::Answered(reply.status)

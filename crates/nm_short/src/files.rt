@@ -232,7 +232,8 @@ impl FileSlots {
     /// Sends the offer of a frozen state. After want of memory the file system is as it was.
     #[tactic(auto, unfolding(crate::specs::Slots::slot_at, crate::specs::Tables::slot_in, crate::specs::Tables::offers_in))]
     pub fn send_offer(&mut self) -> Result<(), Memory>
-        ensures { OnOk result (self.new ≡ offers_in self.old) }
+        ensures after { OnOk result (self.new ≡ offers_in self.old) }
+        ensures err { OnErr result (self.new ≡ self.old) }
     {
         let source = self.at;
         if let Phase::Frozen { dest, .. } = self.slots.phase(source) {

@@ -162,7 +162,7 @@ applied_as s call d verdict r same it told =
 
 -- at first there is the root alone and nothing is held, so the tables are sound
 pub empty_sound : (fs : ℕ) (grants : Bool) → IsSound (empty fs grants)
-empty_sound fs grants = record { rising = refl; apart = refl; numbers = refl }
+empty_sound fs grants = record { rising = refl; apart = refl; numbers = refl; names = refl }
 
 -- and an event that is answered keeps them so
 pub applied_sound : (before : Seen) (event : Event) (reply : Reply) (new : Seen) → IsSound before → Applied before event reply new → IsSound new

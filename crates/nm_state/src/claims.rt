@@ -1,11 +1,12 @@
 //! What the arguments of an OPEN say by themselves (RFC 7530, 16.16).
 ghost use Rattle.std.specs.Prelude.{◌≡◌, IfOk, option_copied};
 ghost use Rattle.nm_rules.specs.Past.{claimed_name, opener, opentype_asks, cuts, exclusive_verifier};
-ghost use Rattle.nm_rules.specs.Opens.{target, claim_unresolved, is_share, claim_fault, claim_arguments, open_fault, is_made_by, name_refusal, touches};
+ghost use Rattle.nm_rules.specs.Opens.{target, claim_unresolved, claim_fault, claim_arguments, open_fault, is_made_by, name_refusal, touches};
 ghost use Rattle.nm_state.specs.Asked.{asks_of_code};
 
 use crate::attributes::{Asked, asks_of};
 use crate::checks::{arguments_fault, refuse_if};
+use nm_shares::is_share;
 use nm_rules::{
     Bytes, Claim, FileRow, Instance, Memory, OpStatus, OpenArgs, OpenType, Owner, OwnerKind,
 };
@@ -79,14 +80,6 @@ pub fn claim_fault(claim: &Claim) -> Option<OpStatus>
         Claim::DelegatePrev(_) => Some(OpStatus::NotSupp),
         Claim::Null(_) | Claim::DelegateCur { .. } => None,
     }
-}
-
-/// Access is 1 to 3, and deny 0 to 3.
-#[tactic(auto, unfolding(nm_rules::specs::Opens::is_share))]
-pub fn is_share(access: u32, deny: u32) -> bool
-    ensures { result ≡ is_share access deny }
-{
-    1 <= access && access <= 3 && deny <= 3
 }
 
 /// What is wrong with a claim's name and the attributes, and what else may be invalid.

@@ -2,7 +2,7 @@
 ghost use Rattle.std.specs.Prelude.{◌≡◌, true, None, IfOk, IsSome, option_copied, option_map};
 ghost use Rattle.nm_rules.specs.Answer.{answer_to};
 ghost use Rattle.nm_rules.specs.Checks.{behind_seqid};
-ghost use Rattle.nm_rules.specs.Opens.{confirm_checks, downgrade_checks, is_narrower, is_within};
+ghost use Rattle.nm_rules.specs.Opens.{confirm_checks, downgrade_checks, is_narrower};
 ghost use Rattle.nm_rules.specs.Shares.{narrowed_row, open_at, put_if, renewed_row};
 ghost use Rattle.nm_rules.specs.declared.calls.Deed.TheVariants.{OpenConfirm as ConfirmDeed, OpenDowngrade as DowngradeDeed};
 ghost use Rattle.nm_rules.specs.declared.calls.Event.TheVariants.{Asked as AskedEvent};
@@ -10,32 +10,12 @@ ghost use Rattle.nm_state.specs.Opening.{Applied, after_opens};
 ghost use Rattle.nm_state.specs.Turns.{Went, reply_behind};
 
 use crate::checks::{lease_refusal, refuse_if};
-use crate::claims::is_share;
 use crate::seqids::Turn;
 use crate::tables::Tables;
 use nm_rules::{
-    Call, Memory, OpStatus, OpenConfirmArgs, OpenDowngradeArgs, OpenRow, Reply, ReplyValue, Verdict,
+    Call, Memory, OpStatus, OpenConfirmArgs, OpenDowngradeArgs, Reply, ReplyValue, Verdict,
 };
-
-// All that the one has, the other has too.
-fn is_within(part: u32, whole: u32) -> bool
-    ensures { result ≡ is_within part whole }
-{
-    part | whole == whole
-}
-
-// Access is 1 to 3 and deny 0 to 3; those of a live open are at most what it has.
-#[tactic(auto, unfolding(nm_rules::specs::Opens::is_narrower))]
-fn is_narrower(access: u32, deny: u32, row: Option<&OpenRow>) -> bool
-    ensures { result ≡ is_narrower access deny (option_copied row.entry) }
-{
-    match row {
-        None => is_share(access, deny),
-        Some(row) => {
-            is_share(access, deny) && is_within(access, row.access) && is_within(deny, row.deny)
-        }
-    }
-}
+use nm_shares::is_narrower;
 
 impl Tables {
     // The first class behind the seqid that refuses an OPEN_CONFIRM.

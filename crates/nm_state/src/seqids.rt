@@ -31,20 +31,6 @@ pub enum Turn {
     Of(Owner),
 }
 
-// The seqid that an operation takes.
-#[tactic(auto, unfolding(nm_rules::specs::Seqids::seqid_of))]
-fn seqid_of(deed: &Deed) -> u32
-    ensures { result ≡ seqid_of deed.now }
-{
-    match deed {
-        Deed::Close(args) => args.seqid,
-        Deed::Open(args) => args.seqid,
-        Deed::OpenConfirm(args) => args.seqid,
-        Deed::OpenDowngrade(args) => args.seqid,
-        _ => 0,
-    }
-}
-
 impl Tables {
     // The value of a refusal: none, but that SETATTR says that it set nothing.
     fn refused_value(&self, deed: &Deed) -> ReplyValue
@@ -156,7 +142,7 @@ impl Tables {
     ) -> Result<(), Memory>
         ensures { OnOk result (self.new ≡ after_noting (Noted (noted_row (owner_at owner.now self.old.owners) owner.now (seqid_of call.now.deed) call.now reply.now) closed) self.old) }
     {
-        self.owners.note(owner, seqid_of(&call.deed), call, reply)?;
+        self.owners.note(owner, call.deed.seqid(), call, reply)?;
         drop_owned(&mut self.closed, owner);
         match closed {
             None => Ok(()),
