@@ -14,6 +14,7 @@ pub mod OpenRows
 pub mod OwnerLaws
 pub mod OwnerLemmas
 pub mod OwnerRows
+pub mod ParentLaws
 pub mod PartyLemmas
 pub mod RangeApart
 pub mod RangeBytes

@@ -1,7 +1,8 @@
 -- What holds of the tables of every legal list.
 use Rattle.std.specs.Prelude.{◌≡◌, ◌==◌, ◌&&◌, not, nat_lt, nat_le, is_none, ℕ, Bool, true, List, [], ◌∷◌, if◌then◌else◌}
 use Rattle.std.specs.List.{list_all}
-use Rattle.nm_rules.specs.Contents.{is_named}
+use Rattle.nm_rules.specs.Checks.{is_dir}
+use Rattle.nm_rules.specs.Contents.{is_named, file_at}
 use Rattle.nm_rules.specs.Owners.{same_owner}
 use Rattle.nm_rules.specs.Seqids.{owner_at}
 use Rattle.nm_rules.specs.Shares.{shares_conflict}
@@ -45,6 +46,15 @@ pub record IsSound (s : Seen) : Type 0 where
   pub apart : all_apart s.opens ≡ true
   pub numbers : files_rise 0 s.tree.last_file s.tree.table ≡ true
   pub names : all_named_apart s.tree.table ≡ true
+
+-- ---- directories
+
+-- A file but the root is in a directory that is there.
+abbrev pub stands_in : List FileRow → FileRow → Bool
+stands_in rows row = if row.number == 1 then true else is_dir (file_at row.parent rows)
+
+abbrev pub all_stand_in : List FileRow → Bool
+all_stand_in rows = list_all (stands_in rows) rows
 
 -- ---- owners
 
