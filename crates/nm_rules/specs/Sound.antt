@@ -1,8 +1,8 @@
 -- What holds of the tables of every legal list.
-use Rattle.std.specs.Prelude.{◌≡◌, ◌==◌, ◌&&◌, not, nat_lt, nat_le, is_none, ℕ, Bool, true, List, [], ◌∷◌, if◌then◌else◌}
+use Rattle.std.specs.Prelude.{◌≡◌, ◌≤◌, length, ◌==◌, ◌&&◌, not, nat_lt, nat_le, is_none, ℕ, Bool, true, List, [], ◌∷◌, if◌then◌else◌}
 use Rattle.std.specs.List.{list_all}
 use Rattle.nm_rules.specs.Checks.{is_dir}
-use Rattle.nm_rules.specs.Contents.{is_named, file_at}
+use Rattle.nm_rules.specs.Contents.{TreeNow, is_named, file_at, total_size, files_limit, size_limit, total_limit}
 use Rattle.nm_rules.specs.Owners.{same_owner}
 use Rattle.nm_rules.specs.Seqids.{owner_at}
 use Rattle.nm_rules.specs.Shares.{shares_conflict}
@@ -55,6 +55,17 @@ stands_in rows row = if row.number == 1 then true else is_dir (file_at row.paren
 
 abbrev pub all_stand_in : List FileRow → Bool
 all_stand_in rows = list_all (stands_in rows) rows
+
+-- ---- limits
+
+-- There are at most 4,096 files, each has at most 1 MiB, and all together have at most 64 MiB.
+abbrev pub fits_size : FileRow → Bool
+fits_size row = nat_le (length row.bytes) size_limit
+
+pub record FilesFit (tree : TreeNow) : Type 0 where
+  pub few : length tree.table ≤ files_limit
+  pub sizes : list_all fits_size tree.table ≡ true
+  pub total : total_size tree.table ≤ total_limit
 
 -- ---- owners
 

@@ -10,7 +10,7 @@ ghost use Rattle.nm_rules.specs.Past.{Past, now, judgement};
 ghost use Rattle.nm_rules.specs.Seqids.{owner_at};
 ghost use Rattle.nm_rules.specs.Seen.{Seen, seen, look, after};
 ghost use Rattle.nm_rules.specs.Answer.{answer, IsLegal};
-ghost use Rattle.nm_rules.specs.Sound.{IsSound, OwnersAreKnown, all_stand_in};
+ghost use Rattle.nm_rules.specs.Sound.{FilesFit, IsSound, OwnersAreKnown, all_stand_in};
 ghost use Rattle.nm_rules.specs.Parties.{Party};
 ghost use Rattle.nm_rules.specs.Holders.{holders, has_row, is_among, parties_rise};
 ghost use Rattle.nm_rules.specs.Readings.{share_of, share_in, AreCompatible};
@@ -53,6 +53,11 @@ pub fn stateids_are_counted()
 /// directory have one name.
 pub fn legal_tables_are_sound()
     ensures { (fs : ℕ) (grants : Bool) (es : Past) → IsLegal fs grants es → IsSound (seen fs grants es) }
+{}
+
+/// A file system never has more than 4,096 files, a file more than 1 MiB, or all files together more than 64 MiB.
+pub fn files_stay_within_their_limits()
+    ensures { (fs : ℕ) (grants : Bool) (es : Past) → IsLegal fs grants es → FilesFit (seen fs grants es).tree }
 {}
 
 /// Each file but the root is in a directory that is there.
