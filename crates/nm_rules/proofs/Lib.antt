@@ -11,6 +11,11 @@ pub mod OwnerLaws
 pub mod OwnerLemmas
 pub mod OwnerRows
 pub mod PartyLemmas
+pub mod RangeApart
+pub mod RangeBytes
+pub mod RangeLaws
+pub mod RangeRows
+pub mod RangeSame
 pub mod SeqidLaws
 pub mod ShareLaws
 pub mod StateidLaws

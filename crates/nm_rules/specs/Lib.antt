@@ -9,6 +9,7 @@ pub mod Files
 pub mod Held
 pub mod Holders
 pub mod Lists
+pub mod Locks
 pub mod Names
 pub mod Opens
 pub mod OwnerReadings

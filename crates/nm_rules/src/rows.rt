@@ -1,7 +1,7 @@
 //! The rows of a file system's tables.
 ghost use Rattle.std.specs.Prelude.{◌≡◌, IfOk};
 
-use crate::{Bytes, Memory, Owner};
+use crate::{Bytes, LockKind, Memory, Owner};
 
 /// What a row of the tree is.
 #[derive(Clone, Copy, Debug, PartialEq, Eq)]
@@ -77,4 +77,16 @@ impl OpenRow {
             deny: self.deny,
         })
     }
+}
+
+/// A range of bytes of a file that a byte-range lock holds (RFC 7530, 9.2).
+#[derive(Clone, Copy, Debug, PartialEq, Eq)]
+pub struct Held {
+    /// The counter of the lock stateid that holds it.
+    pub owner: u64,
+    pub kind: LockKind,
+    /// Its first byte.
+    pub first: u64,
+    /// Its last byte, which isn't before the first. 2^64 - 1 reaches to the end of every file.
+    pub last: u64,
 }
