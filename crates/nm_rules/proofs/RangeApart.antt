@@ -501,7 +501,7 @@ within_parts other owner first last p it =
 pub set_joined : (owner : ℕ) (kind : LockKind) (first last : ℕ) (rows : List Held) → IsJoined rows → first ≤ last → barrier owner kind first last rows ≡ None
     → IsJoined (set_to owner kind first last rows)
 set_joined owner kind first last rows kept order none =
-    record { rising = joined_of _ rises; apart = apart_of (set_to owner kind first last rows) rises meet }
+    record { rising = joined_of (set_to owner kind first last rows) rises; apart = apart_of (set_to owner kind first last rows) rises meet }
   where
     rises : ranges_rise (set_to owner kind first last rows) ≡ true
     rises = set_rises owner kind first last rows order (rise_of rows kept.rising)
@@ -527,7 +527,7 @@ gone_or_kept false k x at = at
 
 pub cleared_joined : (owner first last : ℕ) (rows : List Held) → IsJoined rows → first ≤ last → IsJoined (cleared owner first last rows)
 cleared_joined owner first last rows kept order =
-    record { rising = joined_of _ rises; apart = apart_of (cleared owner first last rows) rises meet }
+    record { rising = joined_of (cleared owner first last rows) rises; apart = apart_of (cleared owner first last rows) rises meet }
   where
     rises : ranges_rise (cleared owner first last rows) ≡ true
     rises = cleared_rises owner first last rows order (rise_of rows kept.rising)
@@ -539,7 +539,7 @@ cleared_joined owner first last rows kept order =
         (gone_or_kept ((q == owner) && is_inside first last p) j (kind_at q p rows) (sym (kind_at-cleared owner first last rows q p) ∙ at_q))
 
 pub dropped_joined : (owner : ℕ) (rows : List Held) → IsJoined rows → IsJoined (dropped owner rows)
-dropped_joined owner rows kept = record { rising = joined_of _ rises; apart = apart_of (dropped owner rows) rises meet }
+dropped_joined owner rows kept = record { rising = joined_of (dropped owner rows) rises; apart = apart_of (dropped owner rows) rises meet }
   where
     rises : ranges_rise (dropped owner rows) ≡ true
     rises = dropped_rises owner rows (rise_of rows kept.rising)

@@ -18,10 +18,10 @@ pub kind_at-cleared : (owner first last : ℕ) (rows : List Held) → are_joined
 kind_at-cleared owner first last rows joined le counter byte = bytes.kind_at-cleared owner first last rows counter byte
 
 pub joined-set : (owner : ℕ) (kind : LockKind) (first last : ℕ) (rows : List Held) → are_joined rows ≡ true → first ≤ last → are_joined (set_to owner kind first last rows) ≡ true
-joined-set owner kind first last rows joined le = joined_of _ (bytes.set_rises owner kind first last rows le (rise_of rows joined))
+joined-set owner kind first last rows joined le = joined_of (set_to owner kind first last rows) (bytes.set_rises owner kind first last rows le (rise_of rows joined))
 
 pub joined-cleared : (owner first last : ℕ) (rows : List Held) → are_joined rows ≡ true → first ≤ last → are_joined (cleared owner first last rows) ≡ true
-joined-cleared owner first last rows joined le = joined_of _ (cleared_rises owner first last rows le (rise_of rows joined))
+joined-cleared owner first last rows joined le = joined_of (cleared owner first last rows) (cleared_rises owner first last rows le (rise_of rows joined))
 
 -- where nothing is in the way, no byte of the range is held by another stateid in conflict
 pub barrier-none : (owner : ℕ) (kind : LockKind) (first last : ℕ) (rows : List Held) → are_joined rows ≡ true → barrier owner kind first last rows ≡ None

@@ -149,7 +149,7 @@ stands_follows : (a b : Held) → stands_behind a b ≡ follows a b
 stands_follows a b = by_owner (nat_lt a.owner b.owner) refl
   where
     by_owner : (c : Bool) → nat_lt a.owner b.owner ≡ c
-        → (c || (a.owner == b.owner) && nat_lt a.last b.first && not (touches a b)) ≡ ((c || ((a.owner == b.owner) && nat_lt a.last b.first)) && not (touches a b))
+        → (c || ((a.owner == b.owner) && nat_lt a.last b.first && not (touches a b))) ≡ ((c || ((a.owner == b.owner) && nat_lt a.last b.first)) && not (touches a b))
     by_owner true low =
         let other : (a.owner == b.owner) ≡ false = grind (arith, nat_tests) in
         rw other refl

@@ -121,7 +121,7 @@ is_range h = nat_le h.first h.last
 
 -- A row stands behind another one: it is of a higher owner, or of the same one and behind its last byte, and isn't to be joined with it.
 abbrev pub stands_behind : Held → Held → Bool
-stands_behind a b = nat_lt a.owner b.owner || (a.owner == b.owner) && nat_lt a.last b.first && not (touches a b)
+stands_behind a b = nat_lt a.owner b.owner || ((a.owner == b.owner) && nat_lt a.last b.first && not (touches a b))
 
 -- each row is a range and stands behind the one before it, the first behind this one
 abbrev pub stand_behind : Held → List Held → Bool
