@@ -41,7 +41,17 @@ fn a_copy_of_a_creation_stays(rt: HostRuntime) -> Result<(), Fail> {
     };
     let copy = created.copy()?;
     created.ok.attrset.push(5)?;
-    assert_eq!(rt; (copy.ok.cinfo, copy.ok.attrset.items(), copy.file), (ChangeInfo { before: 1, after: 2 }, &[2][..], 17));
+    assert_eq!(rt;
+        (copy.ok.cinfo, copy.ok.attrset.items(), copy.file),
+        (
+            ChangeInfo {
+                before: 1,
+                after: 2
+            },
+            &[2][..],
+            17
+        )
+    );
     Ok(())
 }
 
@@ -54,7 +64,10 @@ fn a_copy_of_attributes_stays(rt: HostRuntime) -> Result<(), Fail> {
     };
     let copy = ok.copy()?;
     ok.words.push(1)?;
-    assert_eq!(rt; (copy.attributes, copy.words.items()), (ATTRIBUTES, &[16][..]));
+    assert_eq!(rt;
+        (copy.attributes, copy.words.items()),
+        (ATTRIBUTES, &[16][..])
+    );
     Ok(())
 }
 
@@ -87,6 +100,9 @@ fn a_copy_of_a_listing_stays(rt: HostRuntime) -> Result<(), Fail> {
     let copy = ok.copy()?;
     assert_eq!(rt; copy, ok);
     ok.words.push(1)?;
-    assert_eq!(rt; (copy.words.items(), copy.entries.items().len(), copy.eof), (&[16][..], 1, false));
+    assert_eq!(rt;
+        (copy.words.items(), copy.entries.items().len(), copy.eof),
+        (&[16][..], 1, false)
+    );
     Ok(())
 }

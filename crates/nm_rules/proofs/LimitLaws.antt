@@ -170,13 +170,15 @@ one_edited change dir number edit above last (x ∷ xs) row rising found fits al
         × ((fits_size (cond b (record (edited edit x) { change = change }) (stamped change dir x)) && list_all fits_size rest) ≡ true)
     by_test true same here parts none later =
         let one : x ≡ row = some_same here in
-        let rests = none (grind (arith, nat_tests)) in
-        (omega (arith, rests.0, ap (λ (r : FileRow). length r.bytes) one, ap (edited_length edit) one),
-        rw (fits_le (edited_length edit x) (subst (λ r. edited_length edit r ≤ size_limit) (sym one) fits), rests.1, parts.1) refl)
+        let rests = none (grind (arith, nat_tests)) in (
+          omega (arith, rests.0, ap (λ (r : FileRow). length r.bytes) one, ap (edited_length edit) one),
+          rw (fits_le (edited_length edit x) (subst (λ r. edited_length edit r ≤ size_limit) (sym one) fits), rests.1, parts.1) refl,
+        )
     by_test false other there parts none later =
-        let rests = later there in
-        (omega (arith, rests.0, ap (λ (bytes : List ℕ). length bytes) (stamped_bytes change dir x)),
-        rw (ap (λ (bytes : List ℕ). nat_le (length bytes) size_limit) (stamped_bytes change dir x), parts.0, rests.1) refl)
+        let rests = later there in (
+          omega (arith, rests.0, ap (λ (bytes : List ℕ). length bytes) (stamped_bytes change dir x)),
+          rw (ap (λ (bytes : List ℕ). nat_le (length bytes) size_limit) (stamped_bytes change dir x), parts.0, rests.1) refl,
+        )
 
 -- ---- one law for all words
 

@@ -12,7 +12,6 @@ use Rattle.nm_rules.specs.declared.rows.LockRow.{LockRow}
 use Rattle.nm_rules.proofs.OwnerLemmas.{same_owner-Decides, same_owner-sym, same_party-Decides}
 use Rattle.nm_rules.proofs.OpenRows.{and_parts}
 
-
 -- ---- counters
 
 -- Rows that rise above a number up to another one: the first is at most the second.
@@ -260,7 +259,6 @@ any_at p above last (y ∷ ys) x rising found =
         (or_none (p y) ∙ ap p (some_is here))
     by_test false other there later = later there
 
-
 pub list_all-filter : {A : Type 0} (q p : A → Bool) (rows : List A) → list_all q rows ≡ true → list_all q (filter p rows) ≡ true
 list_all-filter q p [] all = refl
 list_all-filter q p (x ∷ xs) all = by_test (p x) (list_all-filter q p xs (and_parts (q x) (list_all q xs) all).1)
@@ -329,9 +327,11 @@ all_differ-put row (x ∷ xs) fit apart =
         → list_all (differ x) xs ≡ true → all_differ (put_lock row xs) ≡ true → all_differ (cond b (row ∷ xs) (x ∷ put_lock row xs)) ≡ true
     by_test true same fit apart_x later =
         let its = lock_parts row.owner row.file x (subst (λ e. fit_by e (is_lock_of row.owner row.file x) ≡ true) same fit) in
-        rw (subst (λ f. list_all (λ y. cond (f == y.file) (not (same_owner row.owner y.owner)) true) xs ≡ true) its.0
-        (subst (λ o. list_all (λ y. cond (x.file == y.file) (not (same_owner o y.owner)) true) xs ≡ true) (sym its.1) apart_x),
-        (and_parts (list_all (differ x) xs) (all_differ xs) apart).1) refl
+        rw (
+          subst (λ f. list_all (λ y. cond (f == y.file) (not (same_owner row.owner y.owner)) true) xs ≡ true) its.0
+              (subst (λ o. list_all (λ y. cond (x.file == y.file) (not (same_owner o y.owner)) true) xs ≡ true) (sym its.1) apart_x),
+          (and_parts (list_all (differ x) xs) (all_differ xs) apart).1,
+        ) refl
     by_test false other fit apart_x later =
         rw (list_all-put (differ x) row xs apart_x (differ-fits row x other fit), later) refl
 
@@ -381,6 +381,9 @@ fits-known above last (x ∷ xs) row old rising apart found its =
         let one : x ≡ old = some_is here in
         let is_x : is_lock_of row.owner row.file x ≡ true = subst (λ r. is_lock_of row.owner row.file r ≡ true) (sym one) its in
         let parts = lock_parts row.owner row.file x is_x in
-        rw (is_x, fits-behind x.counter last xs row x (and_parts (nat_lt above x.counter) (locks_rise x.counter last xs) rising).1
-        (grind (arith, nat_tests, eqb-true x.counter row.counter same)) (and_parts (list_all (differ x) xs) (all_differ xs) apart).0 parts.0 (sym parts.1)) refl
+        rw (
+          is_x,
+          fits-behind x.counter last xs row x (and_parts (nat_lt above x.counter) (locks_rise x.counter last xs) rising).1
+              (grind (arith, nat_tests, eqb-true x.counter row.counter same)) (and_parts (list_all (differ x) xs) (all_differ xs) apart).0 parts.0 (sym parts.1),
+        ) refl
     by_test false other there later = rw (not_before there, later there its) refl

@@ -272,9 +272,13 @@ open_refused s party file args verdict status known within refused =
       where
         by_status : (b : Bool) → advances status ≡ b → owner_rows (noted (look s) call r (Some (opener party args))) s + length s.opens ≤ rows_limit
         by_status true moves =
-            omega (arith, any_rows (noted (look s) call r (Some (opener party args))) s, noted_closes (look s) call r (Some (opener party args)),
-            ap (λ (c : Option OpenRow). one_if (not (is_none c))) (refused_closes (look s) (deed.Open args)),
-            had_room s party file args verdict status refused moves (none_is (owner_at (opener party args) s.owners) unknown))
+            omega (
+              arith,
+              any_rows (noted (look s) call r (Some (opener party args))) s,
+              noted_closes (look s) call r (Some (opener party args)),
+              ap (λ (c : Option OpenRow). one_if (not (is_none c))) (refused_closes (look s) (deed.Open args)),
+              had_room s party file args verdict status refused moves (none_is (owner_at (opener party args) s.owners) unknown),
+            )
         by_status false stays = noted_stays s call r (opener party args) stays within
 
 -- the rows after a refusal
@@ -377,8 +381,13 @@ open_goes_rows : (s : Seen) (party : Party) (file : ℕ) (args : OpenArgs) (verd
 unfolding open_value look opens_after row_to_open owners_after closed_after
 open_goes_rows s party file args verdict sound goes call r done none =
     rw (noted_done (look s) call r owner done, none)
-    (omega (arith, opens_rows, length-put_owner (noted_row (owner_at owner s.owners) owner (seqid_of call.deed) call r) s.owners,
-    length-listed (filter (λ x. not (same_owner owner x.owner)) s.closed) None, open_room s party file args verdict goes))
+    (omega (
+      arith,
+      opens_rows,
+      length-put_owner (noted_row (owner_at owner s.owners) owner (seqid_of call.deed) call r) s.owners,
+      length-listed (filter (λ x. not (same_owner owner x.owner)) s.closed) None,
+      open_room s party file args verdict goes,
+    ))
   where
     owner : Owner
     owner = opener party args
@@ -433,8 +442,13 @@ goes_rows s caller file (deed.Write _) verdict sound known within goes = omega (
 rows-event : (s : Seen) (event : Event) → IsSound s → OwnersAreKnown s → rows_taken s ≤ rows_limit → rows_taken (after s event (answer_to s event)) ≤ rows_limit
 unfolding answer_to words after_words opens_after owners_after closed_after
 rows-event s (Ended party) sound known within =
-    omega (arith, length-filter (λ (x : OwnerRow). not (same_party party x.owner.instance)) s.owners, length-filter (λ (x : OpenRow). not (same_party party x.owner.instance)) s.opens,
-    length-filter (λ (x : OpenRow). not (same_party party x.owner.instance)) s.closed, within)
+    omega (
+      arith,
+      length-filter (λ (x : OwnerRow). not (same_party party x.owner.instance)) s.owners,
+      length-filter (λ (x : OpenRow). not (same_party party x.owner.instance)) s.opens,
+      length-filter (λ (x : OpenRow). not (same_party party x.owner.instance)) s.closed,
+      within,
+    )
 rows-event s (Asked call verdict) sound known within = by_stop (first (checks s call.caller call.file verdict call.deed)) refl
   where
     by_fresh : (status : OpStatus) → first (checks s call.caller call.file verdict call.deed) ≡ Some (Refuse status) → (b : Bool)
