@@ -42,7 +42,7 @@ front_past a s front more e le = (
 
 -- ---- Structures
 
-structure-append : (xs ys : List (List ℕ)) → structure (xs ++ ys) ≡ structure xs ++ structure ys
+pub structure-append : (xs ys : List (List ℕ)) → structure (xs ++ ys) ≡ structure xs ++ structure ys
 structure-append [] ys = refl
 structure-append (x ∷ xs) ys = ap (λ (b : List ℕ). x ++ b) (structure-append xs ys) ∙ sym (append_assoc x (structure xs) (structure ys))
 

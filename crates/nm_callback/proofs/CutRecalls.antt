@@ -17,7 +17,7 @@ use Rattle.nm_callback.specs.declared.callback.CallbackFault.TheVariants.{At}
 use Rattle.nm_callback.specs.Callbacks.{recalls, stateid, operation, compound, body, written_header, recall, opening_at, numbers_at, other_at, stateid_at, bytes_at, named, handle_at, recall_at, operation_at, compound_at, body_at, callback_at, closed, placed, callback_of, IsStateId, recall_items, CanBeRecalled}
 use Rattle.nm_callback.proofs.ItemLaws.{only_item, choice_item, bytes_item, numbers_spelled, other_item, stateid_item, handle_item, handle_length}
 use Rattle.nm_callback.proofs.OpeningLaws.{IsOpening, opened, opening_again}
-use Rattle.nm_callback.proofs.CutLaws.{CutIn, Cuts, some_length, cut_none, cut_items, cut_field}
+use Rattle.nm_callback.proofs.CutLaws.{CutIn, Cuts, structure-append, cut_none, cut_items, cut_field}
 use Rattle.nm_callback.proofs.ReadLaws.{opening_of}
 use Rattle.nm_callback.proofs.WrittenLaws.{recall_is}
 
@@ -41,12 +41,12 @@ bytes_cut max small bytes front more fits some e = ap (item_or_missing front) (o
 
 -- the 12 bytes of a stateid behind its seqid
 other_cut : IsShortWhereCut other_at numbers_spelled (λ o. (o.0 < 2 ^ 32) × (o.1 < 2 ^ 64))
-unfolding other_at numbers_at numbers_spelled
+unfolding other_at numbers_at
 other_cut o front more fits some e =
     let cuts : Cuts numbers_at (word o.0 ∷ hyper o.1 ∷ []) =
     cut_field word_item word_cut (λ fs. field hyper_at (λ counter. made (fs, counter))) o.0 _ fits.0 (
     cut_field hyper_item hyper_cut (λ counter. made (o.0, counter)) o.1 _ fits.1 (
-    cut_none (made o))) in
+    cut_none (made (o.0, o.1)))) in
     ap (item_or_missing front) (cuts front more some e).fault
 
 handle_cut : IsShortWhereCut handle_at (λ h. opaque (handle_bytes h)) IsHandle
@@ -80,7 +80,7 @@ stateid_cut s fits =
     cut_none (made s)))
 
 state_spelled : (s : StateId) (rest : List ℕ) → structure (word s.seqid ∷ numbers_spelled (s.fs, s.counter) ∷ []) ++ rest ≡ stateid s ++ rest
-unfolding stateid numbers_spelled
+unfolding stateid
 state_spelled s rest = ap (λ (b : List ℕ). (word s.seqid ++ b) ++ rest) (append-nil (word s.fs ++ (hyper s.counter ++ [])))
 
 recall_cut : (xid ident : ℕ) (s : StateId) (h : Handle) → IsStateId s → IsHandle h
@@ -127,12 +127,11 @@ callback_cut xid program ident s h can =
     let opening : IsOpening (written_header xid program) = opening_of (Recall xid ident s h) (recall xid program ident s h) (recall_is xid program ident s h can) in
     cut_items body_at (xid, 1) (parts (written_header xid program)) (behind_items ident s h) (opening_cut (written_header xid program) opening)
     (λ rest. ap (λ (b : List ℕ). opening_at (b ++ rest)) (header_spelled (written_header xid program)) ∙ opening_again (written_header xid program) rest opening)
-    (body_cut xid ident s h can.ident can.state can.handle)
+    (body_cut xid ident s h can.is_ident can.is_state can.is_handle)
 
 -- ---- The place that is told
 
 numbers_alone : (o : ℕ × ℕ) → numbers_spelled o ≡ word o.0 ++ hyper o.1
-unfolding numbers_spelled
 numbers_alone o = ap (λ (b : List ℕ). word o.0 ++ b) (append-nil (hyper o.1))
 
 items_are : (xid program ident : ℕ) (s : StateId) (h : Handle)
@@ -141,18 +140,29 @@ items_are xid program ident s h =
     ap (λ (b : List ℕ). parts (written_header xid program)
     ++ (opaque [] ∷ word 0 ∷ word ident ∷ word 1 ∷ word 4 ∷ word s.seqid ∷ b ∷ flag false ∷ opaque (handle_bytes h) ∷ [])) (numbers_alone (s.fs, s.counter))
 
+-- what stands behind the header, as its items
+behind_spelled : (ident : ℕ) (s : StateId) (h : Handle) → structure (behind_items ident s h) ≡ body (compound [] 0 ident (recalls s false h))
+unfolding body operation stateid
+behind_spelled ident s h =
+    let tail : List ℕ = flag false ++ (opaque (handle_bytes h) ++ []) in
+    ap (λ (b : List ℕ). opaque [] ++ (word 0 ++ (word ident ++ (word 1 ++ b))))
+    (ap (λ (b : List ℕ). word 4 ++ b) (sym (append_assoc (word s.seqid) (numbers_spelled (s.fs, s.counter)) tail))
+    ∙ sym (append-nil (word 4 ++ ((word s.seqid ++ numbers_spelled (s.fs, s.counter)) ++ tail))))
+
 -- A recall is its items, one after the other.
-pub recall_spelled : (xid program ident : ℕ) (s : StateId) (h : Handle) → structure (recall_items xid program ident s h) ≡ recall xid program ident s h
-unfolding recall header body operation stateid word hyper flag opaque fixed padding_of
-recall_spelled xid program ident s h = ap (λ (b : List ℕ). header (written_header xid program) ++ b) refl
+recall_spelled : (xid program ident : ℕ) (s : StateId) (h : Handle)
+    → structure (parts (written_header xid program) ++ behind_items ident s h) ≡ recall xid program ident s h
+unfolding recall header
+recall_spelled xid program ident s h =
+    structure-append (parts (written_header xid program)) (behind_items ident s h)
+    ∙ ap (λ (b : List ℕ). structure (parts (written_header xid program)) ++ b) (behind_spelled ident s h)
 
 told_place : (items : List (List ℕ)) (front : List ℕ) (r : Result (Callback × List ℕ) Fault) → CutIn items front r
     → (at : ℕ) × EndsWithin items front at × (placed (length front) (r >>= λ x. closed x.0 x.1) ≡ Err (At at))
 told_place items front r c =
-    let at : ℕ = length (structure c.before) in
-    let long : length front ≡ at + length c.piece = ap length c.is_front ∙ length-append (structure c.before) c.piece in
-    let place : length front - length c.piece ≡ at = omega (arith, long) in (
-      at,
+    let long : length front ≡ length (structure c.before) + length c.piece = ap length c.is_front ∙ length-append (structure c.before) c.piece in
+    let place : length front - length c.piece ≡ length (structure c.before) = omega (arith, long) in (
+      length (structure c.before),
       record {
         before = c.before;
         cut = c.cut;
@@ -170,9 +180,7 @@ pub cut_is_refused : (xid program ident : ℕ) (state : StateId) (handle : Handl
     → (at : ℕ) × EndsWithin (recall_items xid program ident state handle) front at × (callback_of front ≡ Err (At at))
 unfolding callback_of
 cut_is_refused xid program ident state handle front more can e some =
-    let items : List (List ℕ) = parts (written_header xid program) ++ behind_items ident state handle in
-    let same : items ≡ recall_items xid program ident state handle = items_are xid program ident state handle in
-    let is : structure items ≡ front ++ more = ap structure same ∙ recall_spelled xid program ident state handle ∙ e in
-    let c : CutIn items front (callback_at front) = callback_cut xid program ident state handle can front more some is in
-    subst (λ (l : List (List ℕ)). (at : ℕ) × EndsWithin l front at × (placed (length front) (callback_at front >>= λ x. closed x.0 x.1) ≡ Err (At at))) same
-    (told_place items front (callback_at front) c)
+    let c = callback_cut xid program ident state handle can front more some (recall_spelled xid program ident state handle ∙ e) in
+    subst (λ (l : List (List ℕ)). (at : ℕ) × EndsWithin l front at × (placed (length front) (callback_at front >>= λ x. closed x.0 x.1) ≡ Err (At at)))
+    (items_are xid program ident state handle)
+    (told_place (parts (written_header xid program) ++ behind_items ident state handle) front (callback_at front) c)

@@ -47,11 +47,11 @@ bytes_item max small = item_item (opaque_item max small)
 
 -- ---- Stateids
 
-numbers_spelled : ℕ × ℕ → List ℕ
+abbrev pub numbers_spelled : ℕ × ℕ → List ℕ
 numbers_spelled o = word o.0 ++ (hyper o.1 ++ [])
 
 numbers_item : IsItem numbers_at numbers_spelled (λ o. (o.0 < 2 ^ 32) × (o.1 < 2 ^ 64))
-unfolding numbers_at numbers_spelled
+unfolding numbers_at
 numbers_item =
     fits_as (λ o. (o.0 < 2 ^ 32) × (o.1 < 2 ^ 64)) (λ o f. (f.0, (f.1, tt))) (λ o f. (f.0, f.1.0)) (
     record_item (
@@ -59,12 +59,12 @@ numbers_item =
     field_part (λ (o : ℕ × ℕ). o.1) _ (λ _. hyper_item) (
     made_part _ (λ _. refl) (λ _. refl)))))
 
-other_item : IsItem other_at numbers_spelled (λ o. (o.0 < 2 ^ 32) × (o.1 < 2 ^ 64))
+pub other_item : IsItem other_at numbers_spelled (λ o. (o.0 < 2 ^ 32) × (o.1 < 2 ^ 64))
 unfolding other_at
 other_item = item_item numbers_item
 
 pub stateid_item : IsItem stateid_at stateid IsStateId
-unfolding stateid_at stateid numbers_spelled
+unfolding stateid_at stateid
 stateid_item =
     fits_as IsStateId (λ s f. (f.seqid, ((f.fs, f.counter), tt))) (λ s f. record { seqid = f.0; fs = f.1.0.0; counter = f.1.0.1 }) (
     spelled_as stateid (λ s _. ap (λ (b : List ℕ). word s.seqid ++ b) (sym (append-nil (word s.fs ++ (hyper s.counter ++ []))))) (

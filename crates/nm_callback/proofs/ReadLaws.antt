@@ -66,7 +66,7 @@ unfolding recall_at operation
 recall_found xid ident bytes c are e =
     let s = taken stateid_item _ bytes c are e in
     let t = taken flag_item _ s.after c s.are_bytes s.went in
-    let h = taken handle_item _ t.after c t.are_bytes t.went in
+    let h = taken handle_item (λ handle. made (Recall xid ident s.value handle)) t.after c t.are_bytes t.went in
     let end = ended_found (Recall xid ident s.value h.value) c h.after h.went in
     let handle_is : t.after ≡ opaque (handle_bytes h.value) ++ [] = h.spelled ∙ ap (λ (b : List ℕ). opaque (handle_bytes h.value) ++ b) end.1 in (
       recalls s.value t.value h.value,
@@ -87,7 +87,7 @@ getattr_found xid ident bytes c are e =
     let words_are : h.after ≡ counted word r.0 ++ [] = w.0 ∙ ap (λ (b : List ℕ). counted word r.0 ++ b) end.1 in (
       asks h.value r.0,
       ap (λ (b : List ℕ). word 3 ++ b) (h.spelled ∙ ap (λ (b : List ℕ). opaque h.value ++ b) words_are),
-      (h.fits, w.1),
+      (h.fits, w.1.0, w.1.1),
       end.0,
     )
 
@@ -155,7 +155,7 @@ body_found xid procedure bytes c are few e = by_procedure (eqb procedure 0) refl
 
 -- what is told by its place was read
 placed_ok : (total : ℕ) (r : Result Callback Fault) (c : Callback) → placed total r ≡ Ok c → r ≡ Ok c
-placed_ok total (Ok x) c e = cc
+placed_ok total (Ok x) c e = let same : x ≡ c = cc in ap (λ (v : Callback). Ok v) same
 placed_ok total (Err f) c e = absurd cc
 
 whole_found : (c : Callback) (bytes : List ℕ) → IsBytes bytes → closing (callback_at bytes) ≡ Ok c → IsCallback c bytes
@@ -221,9 +221,9 @@ unfolding operation operation_at
 operation_again xid ident (recalls state truncate handle) rest fits =
     field_again word_item (operation_at xid ident) 4 _ rest (omega arith) ∙ recall_again xid ident state truncate handle rest fits.0 fits.1
 operation_again xid ident (asks handle words) rest fits =
-    field_again word_item (operation_at xid ident) 3 _ rest (omega arith) ∙ getattr_again xid handle words rest fits.0 fits.1
+    field_again word_item (operation_at xid ident) 3 _ rest (omega arith) ∙ getattr_again xid handle words rest fits.0 (fits.1, fits.2)
 operation_again xid ident (others number arguments) rest fits =
-    field_again word_item (operation_at xid ident) number arguments rest fits.0 ∙ rw (ne_eqb number 3 fits.1.0, ne_eqb number 4 fits.1.1) refl
+    field_again word_item (operation_at xid ident) number arguments rest fits.0 ∙ rw (ne_eqb number 3 fits.1, ne_eqb number 4 fits.2) refl
 
 abbrev pub unread_body : Body → List ℕ
 unread_body null = []
@@ -236,11 +236,11 @@ body_again xid procedure null rest fits is = rw is refl
 body_again xid procedure (compound tag minor ident o) rest fits is =
     rw is (
     field_again (bytes_item 1024 (omega arith)) _ tag _ rest fits.0
-    ∙ field_again word_item _ minor _ rest fits.1.0
-    ∙ field_again word_item _ ident _ rest fits.1.1.0
+    ∙ field_again word_item _ minor _ rest fits.1
+    ∙ field_again word_item _ ident _ rest fits.2
     ∙ field_again (only_item 1 (omega arith)) _ 1 _ rest refl
     ∙ ap (λ (b : List ℕ). field word_at (operation_at xid ident) (b ++ rest)) (append-nil (operation o))
-    ∙ operation_again xid ident o rest fits.1.1.1
+    ∙ operation_again xid ident o rest fits.3
     )
 
 -- What is spelled is read, whatever follows.
@@ -300,11 +300,10 @@ closed_over total xid (compound tag minor ident (others number arguments)) more 
 pub longer_is_refused : (c : Callback) (bytes more : List ℕ) → IsCallback c bytes → is_known c ≡ true → more ≢ [] → callback_of (bytes ++ more) ≡ Err (At (length bytes))
 unfolding callback_of
 longer_is_refused c bytes more i known some =
-    let total : ℕ = length (bytes ++ more) in
     let read : callback_at (bytes ++ more) ≡ Ok (told i.items.xid i.behind, unread_body i.behind ++ more) =
     ap (λ (b : List ℕ). callback_at (b ++ more)) i.spelled ∙ callback_read i.items i.behind more (opening_of c bytes i) i.is_body i.procedure in
     let is : is_known (told i.items.xid i.behind) ≡ true = ap is_known i.is_told ∙ known in
-    let place : total - length more ≡ length bytes = omega (arith, length-append bytes more) in
-    ap (λ (r : Result (Callback × List ℕ) Fault). placed total (closing r)) read
-    ∙ closed_over total i.items.xid i.behind more is some
+    let place : length (bytes ++ more) - length more ≡ length bytes = omega (arith, length-append bytes more) in
+    ap (λ (r : Result (Callback × List ℕ) Fault). placed (length (bytes ++ more)) (closing r)) read
+    ∙ closed_over (length (bytes ++ more)) i.items.xid i.behind more is some
     ∙ ap (λ (n : ℕ). Err (At n)) place

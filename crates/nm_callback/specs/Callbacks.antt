@@ -132,8 +132,8 @@ operation_at xid ident op = if op == 3 then getattr_at xid else if op == 4 then 
 
 unfoldable pub compound_at : ℕ → Reading Callback
 compound_at xid =
-    field (bytes_at 1024) (λ tag. field word_at (λ minor. field word_at (λ ident. field (only_at 1) (λ count. field word_at (λ op.
-    operation_at xid ident op)))))
+    field (bytes_at 1024) (λ tag. field word_at (λ minor. field word_at (λ ident. field (only_at 1) (λ count.
+    field word_at (operation_at xid ident)))))
 
 -- by the procedure
 unfoldable pub body_at : ℕ × ℕ → Reading Callback
@@ -214,11 +214,11 @@ pub record IsCallback (c : Callback) (bytes : List ℕ) : Type 0 where
 
 -- The numbers of a recall are words, its stateid is one, and its handle is one that this profile makes.
 pub record CanBeRecalled (xid program ident : ℕ) (state : StateId) (handle : Handle) : Type 0 where
-  pub xid : xid < 2 ^ 32
-  pub program : program < 2 ^ 32
-  pub ident : ident < 2 ^ 32
-  pub state : IsStateId state
-  pub handle : IsHandle handle
+  pub is_xid : xid < 2 ^ 32
+  pub is_program : program < 2 ^ 32
+  pub is_ident : ident < 2 ^ 32
+  pub is_state : IsStateId state
+  pub is_handle : IsHandle handle
 
 -- ---- Where a recall can be cut
 
