@@ -18,8 +18,7 @@ use Rattle.nm_callback.specs.Callbacks.{recalls, stateid, operation, compound, b
 use Rattle.nm_callback.proofs.ItemLaws.{only_item, choice_item, bytes_item, numbers_spelled, other_item, stateid_item, handle_item, handle_length}
 use Rattle.nm_callback.proofs.OpeningLaws.{IsOpening, opened, opening_again}
 use Rattle.nm_callback.proofs.CutLaws.{CutIn, Cuts, structure-append, cut_none, cut_items, cut_field}
-use Rattle.nm_callback.proofs.ReadLaws.{opening_of}
-use Rattle.nm_callback.proofs.WrittenLaws.{recall_is}
+use Rattle.nm_callback.proofs.WrittenLaws.{written_opening}
 
 -- ---- Items
 
@@ -124,7 +123,7 @@ callback_cut : (xid program ident : ℕ) (s : StateId) (h : Handle) → CanBeRec
     → Cuts callback_at (parts (written_header xid program) ++ behind_items ident s h)
 unfolding callback_at
 callback_cut xid program ident s h can =
-    let opening : IsOpening (written_header xid program) = opening_of (Recall xid ident s h) (recall xid program ident s h) (recall_is xid program ident s h can) in
+    let opening : IsOpening (written_header xid program) = written_opening xid program can.is_xid can.is_program in
     cut_items body_at (xid, 1) (parts (written_header xid program)) (behind_items ident s h) (opening_cut (written_header xid program) opening)
     (λ rest. ap (λ (b : List ℕ). opening_at (b ++ rest)) (header_spelled (written_header xid program)) ∙ opening_again (written_header xid program) rest opening)
     (body_cut xid ident s h can.is_ident can.is_state can.is_handle)

@@ -10,6 +10,7 @@ use Rattle.nm_rules.specs.declared.calls.StateId.{StateId}
 use Rattle.nm_rules.specs.declared.wire.Handle.{Handle}
 use Rattle.nm_callback.specs.declared.callback.Callback.TheVariants.{Recall}
 use Rattle.nm_callback.specs.Callbacks.{recalls, compound, written_header, recall, result_body, callback_reply, callback_of, IsCallback, CanBeRecalled}
+use Rattle.nm_callback.proofs.OpeningLaws.{IsOpening}
 use Rattle.nm_callback.proofs.ReadLaws.{callback_again}
 
 pub header_fits : (xid program : ℕ) → xid < 2 ^ 32 → program < 2 ^ 32 → IsHeader (written_header xid program)
@@ -25,6 +26,9 @@ header_fits xid program x p = record {
   verifier_flavor = omega arith;
   verifier = omega arith;
 }
+
+pub written_opening : (xid program : ℕ) → xid < 2 ^ 32 → program < 2 ^ 32 → IsOpening (written_header xid program)
+written_opening xid program x p = record { fits = header_fits xid program x p; kind = refl; rpc_version = refl; version = refl; procedure = omega arith }
 
 -- A recall is a callback that is told as what was written.
 pub recall_is : (xid program ident : ℕ) (state : StateId) (handle : Handle) → CanBeRecalled xid program ident state handle
