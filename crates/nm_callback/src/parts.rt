@@ -1,5 +1,5 @@
 //! Items of callbacks.
-ghost use Rattle.std.specs.Prelude.{◌≡◌, ◌++◌, OnOk};
+ghost use Rattle.std.specs.Prelude.{◌≡◌, ◌++◌, [], OnOk};
 ghost use Rattle.nm_xdr.specs.Fields.{rows_at};
 ghost use Rattle.nm_xdr.specs.Items.{word_at};
 ghost use Rattle.nm_xdr.specs.Places.{Gives};
