@@ -141,7 +141,11 @@ fn an_altered_recall_is_refused_at_its_item(rt: HostRuntime) -> Result<(), Fail>
     for (index, value, at) in ALTERED {
         let mut bytes = RECALL;
         *bytes.get_mut(index).ok_or("a byte of the recall")? = value;
-        assert_eq!(rt; read_callback(&bytes), Err(CallbackFault::At { at }), "byte {index}");
+        assert_eq!(rt;
+            read_callback(&bytes),
+            Err(CallbackFault::At { at }),
+            "byte {index}"
+        );
     }
     Ok(())
 }
@@ -152,7 +156,11 @@ fn each_prefix_is_refused_at_the_item_that_is_cut(rt: HostRuntime) -> Result<(),
     for end in ENDS {
         for len in at..end {
             let front = RECALL.get(..len).ok_or("a length of the recall")?;
-            assert_eq!(rt; read_callback(front), Err(CallbackFault::At { at }), "cut after {len}");
+            assert_eq!(rt;
+                read_callback(front),
+                Err(CallbackFault::At { at }),
+                "cut after {len}"
+            );
         }
         at = end;
     }
