@@ -7,6 +7,8 @@ mod args;
 #[cfg(test)]
 mod attrs;
 #[cfg(test)]
+mod callback;
+#[cfg(test)]
 mod result_limits;
 #[cfg(test)]
 mod result_vectors;
