@@ -1,12 +1,25 @@
-//! The roll of a server: what it knows of its clients. So far there is what it tells of a lease.
+//! The roll of a server: its clients, the leases that stand between them and the server, and the moves that concern them
+//! (RFC 7530, 9.1.1, 9.5, 9.6, 16.33 and 16.34; RFC 7931).
+//!
+//! A client names itself by a string. Of each string the roll has at most one confirmed record and one that waits to be
+//! confirmed. A confirmed record has a lease, which every operation of the client renews. A lease that wasn't renewed in time
+//! lapses when `expire` is asked, and not before.
 #![tactic(auto)]
 
-use nm_rules::{Era, Instance};
+mod answers;
+mod cases;
+mod clients;
+mod giving;
+mod leases;
+mod moves;
+mod records;
+mod reserving;
+mod roll;
+mod rows;
+mod told;
 
-/// When its server's roll was asked, the lease of this client stood, in this era of its record there.
-#[derive(Clone, Copy, Debug, PartialEq, Eq)]
-pub struct LeasePass {
-    pub instance: Instance,
-    /// A later record of the client at that server has a greater era.
-    pub era: Era,
-}
+pub use answers::{
+    CallbackPath, ConfirmAnswer, EndCause, Ended, LeasePass, Reserve, SetAnswer, Touch,
+};
+pub use records::{ClientString, Confirmed, Reservation, StringRow, Unconfirmed};
+pub use roll::Roll;

@@ -1,0 +1,4 @@
+pub mod Records
+pub mod Clients
+pub mod Leases
+pub mod Moves
