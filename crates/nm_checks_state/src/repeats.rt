@@ -1,76 +1,48 @@
 //! Which calls are repeats of one another (RFC 7530, 9.1.7).
-use crate::state_steps::start_of;
-use nm_rules::{
-    Bytes, Call, Claim, CloseArgs, Deed, Instance, OpenArgs, OpenType, StateId, StateRef,
-};
+use crate::state_steps::{How, What, call, start_of};
 use std::alloc::Global;
 use std::test::Fail;
 
-/// An OPEN without creation, of the name `f`.
-fn open_call(alloc: Global, caller: Instance, access: u32) -> Result<Call, Fail> {
-    Ok(Call {
-        caller: Some(caller),
-        file: 1,
-        deed: Deed::Open(OpenArgs {
-            seqid: 7,
-            access,
-            deny: 0,
-            owner: Bytes::from_slice(alloc, b"C1/o")?,
-            opentype: OpenType::NoCreate,
-            claim: Claim::Null(Bytes::from_slice(alloc, b"f")?),
-        }),
-    })
-}
+// A current file, and what is asked.
+type Asked = (u64, What<'static>);
 
-/// An OPEN with access 3 by the run 7 of a client is repeated by one of that run with that access.
-fn is_repeated(alloc: Global, verifier: u64, access: u32) -> Result<bool, Fail> {
-    let kept = open_call(alloc, start_of(b'A', 7)?, 3)?;
-    let call = open_call(alloc, start_of(b'A', verifier)?, access)?;
-    Ok(call.repeats(&kept))
+const OPEN: Asked = (1, What::Open(7, b"f", How::NoCreate, 3, 0));
+
+const OTHER_OPEN: Asked = (1, What::Open(7, b"f", How::NoCreate, 1, 0));
+
+const CLOSE: Asked = (16, What::Close(3, 2, 1));
+
+// Whether a call of A, whose verifier is 7, is repeated by that one of a run of A with that verifier.
+fn is_repeated(alloc: Global, kept: Asked, verifier: u64, again: Asked) -> Result<bool, Fail> {
+    let kept = call(alloc, b'A', kept.0, kept.1)?;
+    let mut again = call(alloc, b'A', again.0, again.1)?;
+    again.caller = Some(start_of(b'A', verifier)?);
+    Ok(again.repeats(&kept))
 }
 
 #[test]
 fn a_call_is_repeated_by_itself_alone(rt: HostRuntime) -> Result<(), Fail> {
     let alloc = rt.alloc();
     let repeats = [
-        is_repeated(alloc, 7, 3)?,
-        is_repeated(alloc, 7, 1)?,
-        is_repeated(alloc, 8, 3)?,
+        is_repeated(alloc, OPEN, 7, OPEN)?,
+        is_repeated(alloc, OPEN, 7, OTHER_OPEN)?,
+        is_repeated(alloc, OPEN, 8, OPEN)?,
     ];
     assert_eq!(rt; repeats, [true, false, false]);
     Ok(())
 }
 
-/// A CLOSE of that file, by the stateid with that seqid.
-fn close_call(file: u64, seqid: u32) -> Call {
-    Call {
-        caller: None,
-        file,
-        deed: Deed::Close(CloseArgs {
-            seqid: 3,
-            stateid: StateRef::Named(StateId {
-                seqid,
-                fs: 0,
-                counter: 1,
-            }),
-        }),
-    }
-}
-
 #[test]
-fn a_close_is_repeated_by_the_same_stateid(rt: HostRuntime) {
-    let kept = close_call(16, 2);
+fn a_close_is_repeated_by_the_same_stateid(rt: HostRuntime) -> Result<(), Fail> {
+    let alloc = rt.alloc();
     let repeats = [
-        close_call(16, 2).repeats(&kept),
-        close_call(17, 2).repeats(&kept),
-        close_call(16, 1).repeats(&kept),
+        is_repeated(alloc, CLOSE, 7, CLOSE)?,
+        is_repeated(alloc, CLOSE, 7, (17, CLOSE.1))?,
+        is_repeated(alloc, CLOSE, 7, (16, What::Close(3, 1, 1)))?,
     ];
     assert_eq!(rt; repeats, [true, false, false]);
-    let look_up = Call {
-        caller: None,
-        file: 1,
-        deed: Deed::LookupP,
-    };
     // An operation without a seqid is never one that came before.
-    assert_eq!(rt; look_up.repeats(&look_up), false);
+    let parent = (1, What::Parent);
+    assert_eq!(rt; is_repeated(alloc, parent, 7, parent)?, false);
+    Ok(())
 }

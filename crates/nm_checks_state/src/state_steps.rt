@@ -210,7 +210,8 @@ fn plain_deed(alloc: Global, what: What<'_>) -> Deed {
     }
 }
 
-fn call(alloc: Global, letter: u8, file: u64, what: What<'_>) -> Result<Call, Fail> {
+/// A call of the first run of a client, with that current file.
+pub(crate) fn call(alloc: Global, letter: u8, file: u64, what: What<'_>) -> Result<Call, Fail> {
     Ok(Call {
         caller: Some(client(letter)?),
         file,
