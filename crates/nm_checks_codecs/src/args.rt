@@ -39,144 +39,228 @@ fn rewritten(alloc: Global, bytes: &[u8]) -> Result<Vec<u8>, Fail> {
 }
 
 /// How many operations are read, and how they end.
-fn outline(alloc: Global, bytes: &[u8]) -> Result<(usize, CompoundEnd), ArgsFault> {
+type Ending = Result<(usize, CompoundEnd), ArgsFault>;
+
+fn outline(alloc: Global, bytes: &[u8]) -> Ending {
     let compound = read_compound(alloc, bytes)?;
     Ok((compound.ops.items().len(), compound.end))
 }
 
+fn is_rewritten(alloc: Global, digits: &str) -> Result<bool, Fail> {
+    let bytes = bytes_of(alloc, digits)?;
+    let again = rewritten(alloc, &bytes)?;
+    Ok(again.as_slice() == bytes.as_slice())
+}
+
+/// The first of these that isn't written as it was read.
+fn first_written_otherwise(alloc: Global, rows: &[(&str, &str)]) -> Result<Option<usize>, Fail> {
+    for at in 0..rows.len() {
+        if !is_rewritten(alloc, rows[at].1)? {
+            return Ok(Some(at));
+        }
+    }
+    Ok(None)
+}
+
 #[test]
 fn what_another_codec_encodes_is_read_and_written_so(rt: HostRuntime) -> Result<(), Fail> {
-    let alloc = rt.alloc();
-    for (name, digits) in VECTORS {
-        let bytes = bytes_of(alloc, digits)?;
-        let again = rewritten(alloc, &bytes)?;
-        assert_eq!(rt; again.as_slice(), bytes.as_slice(), "{name}");
-    }
+    assert_eq!(rt; first_written_otherwise(rt.alloc(), &VECTORS)?, None);
     Ok(())
+}
+
+const ENDS: [(&str, Ending); 12] = [
+    (
+        "00000000000000000000000100000018",
+        Ok((1, CompoundEnd::Clean)),
+    ),
+    (
+        "0000000000000000000000010000001800000000",
+        Err(ArgsFault::GarbageAt { at: 16 }),
+    ),
+    (
+        "000000000000000000000001",
+        Err(ArgsFault::GarbageAt { at: 12 }),
+    ),
+    ("00000000000000000000", Err(ArgsFault::GarbageAt { at: 8 })),
+    (
+        "0000000000000000000000020000001800000002",
+        Ok((1, CompoundEnd::Illegal { number: 2 })),
+    ),
+    (
+        "0000000000000000000000010000000c00000005",
+        Ok((0, CompoundEnd::BadXdr { op: 12 })),
+    ),
+    ("000000000000000100000041", Ok((0, CompoundEnd::Minor))),
+    (
+        "00000000000000000000000100000021000000046e616d65",
+        Ok((1, CompoundEnd::Clean)),
+    ),
+    (
+        "000000000000000000000041",
+        Ok((0, CompoundEnd::TooMany { count: 65 })),
+    ),
+    // the first number behind those of operations
+    (
+        "00000000000000000000000100000028",
+        Ok((0, CompoundEnd::Illegal { number: 40 })),
+    ),
+    // CREATE of the last two types of objects, whose name and attributes are empty
+    (
+        "0000000000000000000000010000000600000008000000000000000000000000",
+        Ok((1, CompoundEnd::Clean)),
+    ),
+    (
+        "0000000000000000000000010000000600000009000000000000000000000000",
+        Ok((1, CompoundEnd::Clean)),
+    ),
+];
+
+fn has_outline(alloc: Global, digits: &str, want: &Ending) -> Result<bool, Fail> {
+    let bytes = bytes_of(alloc, digits)?;
+    Ok(outline(alloc, &bytes) == *want)
+}
+
+/// The first of these that has another outline.
+fn first_that_ends_otherwise(
+    alloc: Global,
+    rows: &[(&str, Ending)],
+) -> Result<Option<usize>, Fail> {
+    for at in 0..rows.len() {
+        if !has_outline(alloc, rows[at].0, &rows[at].1)? {
+            return Ok(Some(at));
+        }
+    }
+    Ok(None)
 }
 
 #[test]
 fn compounds_end_as_they_should(rt: HostRuntime) -> Result<(), Fail> {
-    let alloc = rt.alloc();
-    let cases: [(&str, Result<(usize, CompoundEnd), ArgsFault>); 12] = [
-        (
-            "00000000000000000000000100000018",
-            Ok((1, CompoundEnd::Clean)),
-        ),
-        (
-            "0000000000000000000000010000001800000000",
-            Err(ArgsFault::GarbageAt { at: 16 }),
-        ),
-        (
-            "000000000000000000000001",
-            Err(ArgsFault::GarbageAt { at: 12 }),
-        ),
-        ("00000000000000000000", Err(ArgsFault::GarbageAt { at: 8 })),
-        (
-            "0000000000000000000000020000001800000002",
-            Ok((1, CompoundEnd::Illegal { number: 2 })),
-        ),
-        (
-            "0000000000000000000000010000000c00000005",
-            Ok((0, CompoundEnd::BadXdr { op: 12 })),
-        ),
-        ("000000000000000100000041", Ok((0, CompoundEnd::Minor))),
-        (
-            "00000000000000000000000100000021000000046e616d65",
-            Ok((1, CompoundEnd::Clean)),
-        ),
-        (
-            "000000000000000000000041",
-            Ok((0, CompoundEnd::TooMany { count: 65 })),
-        ),
-        // the first number behind those of operations
-        (
-            "00000000000000000000000100000028",
-            Ok((0, CompoundEnd::Illegal { number: 40 })),
-        ),
-        // CREATE of the last two types of objects, whose name and attributes are empty
-        (
-            "0000000000000000000000010000000600000008000000000000000000000000",
-            Ok((1, CompoundEnd::Clean)),
-        ),
-        (
-            "0000000000000000000000010000000600000009000000000000000000000000",
-            Ok((1, CompoundEnd::Clean)),
-        ),
-    ];
-    for (digits, want) in cases {
-        let bytes = bytes_of(alloc, digits)?;
-        assert_eq!(rt; outline(alloc, &bytes), want, "{digits}");
-    }
+    assert_eq!(rt; first_that_ends_otherwise(rt.alloc(), &ENDS)?, None);
     Ok(())
+}
+
+/// The outline of so many operations.
+fn outline_of_many(alloc: Global, count: u8) -> Result<Ending, Fail> {
+    let mut bytes = vec![in alloc; 0; 11]?;
+    bytes.push(count)?;
+    for _ in 0..count {
+        bytes.extend_from_slice(&[0, 0, 0, 24])?;
+    }
+    Ok(outline(alloc, &bytes))
 }
 
 #[test]
 fn sixty_four_operations_are_read_and_sixty_five_arent(rt: HostRuntime) -> Result<(), Fail> {
-    let alloc = rt.alloc();
-    for (count, want) in [
-        (64, (64, CompoundEnd::Clean)),
-        (65, (0, CompoundEnd::TooMany { count: 65 })),
-    ] {
-        let mut bytes = vec![in alloc; 0; 11]?;
-        bytes.push(count)?;
-        for _ in 0..count {
-            bytes.extend_from_slice(&[0, 0, 0, 24])?;
-        }
-        assert_eq!(rt; outline(alloc, &bytes), Ok(want));
-    }
+    let (most, more) = (
+        outline_of_many(rt.alloc(), 64)?,
+        outline_of_many(rt.alloc(), 65)?,
+    );
+    assert_eq!(rt; most, Ok((64, CompoundEnd::Clean)));
+    assert_eq!(rt; more, Ok((0, CompoundEnd::TooMany { count: 65 })));
     Ok(())
+}
+
+/// The number of the operation of one of these.
+fn number_of(bytes: &[u8]) -> Result<u32, Fail> {
+    Ok(u32::from(*bytes.get(19).ok_or("a number")?))
+}
+
+/// What is read of one of these that is cut after so many bytes.
+fn cut_outline(op: u32, len: usize) -> Ending {
+    match len {
+        0..8 => Err(ArgsFault::GarbageAt { at: 0 }),
+        8..12 => Err(ArgsFault::GarbageAt { at: 8 }),
+        12..16 => Err(ArgsFault::GarbageAt { at: 12 }),
+        16..20 => Err(ArgsFault::GarbageAt { at: 16 }),
+        _ => Ok((0, CompoundEnd::BadXdr { op })),
+    }
+}
+
+/// The first length at which it ends otherwise when it is cut.
+fn first_cut_that_differs(alloc: Global, digits: &str) -> Result<Option<usize>, Fail> {
+    let bytes = bytes_of(alloc, digits)?;
+    let op = number_of(&bytes)?;
+    for len in 0..bytes.len() {
+        if outline(alloc, bytes.split_at(len).0) != cut_outline(op, len) {
+            return Ok(Some(len));
+        }
+    }
+    Ok(None)
+}
+
+/// The first of these that ends otherwise when it is cut, and where.
+fn first_cut_otherwise(
+    alloc: Global,
+    rows: &[(&str, &str)],
+) -> Result<Option<(usize, usize)>, Fail> {
+    for at in 0..rows.len() {
+        if let Some(len) = first_cut_that_differs(alloc, rows[at].1)? {
+            return Ok(Some((at, len)));
+        }
+    }
+    Ok(None)
 }
 
 #[test]
 fn what_is_cut_ends_at_the_item_that_is_cut(rt: HostRuntime) -> Result<(), Fail> {
-    let alloc = rt.alloc();
-    for (name, digits) in VECTORS {
-        let bytes = bytes_of(alloc, digits)?;
-        let op = u32::from(*bytes.get(19).ok_or("a number")?);
-        for len in 0..bytes.len() {
-            let want = match len {
-                0..8 => Err(ArgsFault::GarbageAt { at: 0 }),
-                8..12 => Err(ArgsFault::GarbageAt { at: 8 }),
-                12..16 => Err(ArgsFault::GarbageAt { at: 12 }),
-                16..20 => Err(ArgsFault::GarbageAt { at: 16 }),
-                _ => Ok((0, CompoundEnd::BadXdr { op })),
-            };
-            let front = bytes.as_slice().get(..len).ok_or("a front")?;
-            assert_eq!(rt; outline(alloc, front), want, "{name} cut after {len}");
+    assert_eq!(rt; first_cut_otherwise(rt.alloc(), &VECTORS)?, None);
+    Ok(())
+}
+
+/// What is read of it with a word of ones.
+fn outline_with_ones(alloc: Global, digits: &str, word: usize) -> Result<Ending, Fail> {
+    let mut bytes = bytes_of(alloc, digits)?;
+    let start = word.saturating_mul(4);
+    bytes
+        .as_mut_slice()
+        .get_mut(start..start.saturating_add(4))
+        .ok_or("a word")?
+        .fill(0xff);
+    Ok(outline(alloc, &bytes))
+}
+
+/// It ends by name, or is read.
+fn is_named(op: u32, word: usize, told: &Ending) -> bool {
+    match word {
+        0 | 1 => *told == Err(ArgsFault::GarbageAt { at: 0 }),
+        2 => *told == Ok((0, CompoundEnd::Minor)),
+        3 => *told == Ok((0, CompoundEnd::TooMany { count: u32::MAX })),
+        4 => *told == Ok((0, CompoundEnd::Illegal { number: u32::MAX })),
+        _ => {
+            *told == Ok((1, CompoundEnd::Clean)) || *told == Ok((0, CompoundEnd::BadXdr { op }))
         }
     }
-    Ok(())
+}
+
+/// The first word that isn't named when it is all ones.
+fn first_word_that_differs(alloc: Global, digits: &str) -> Result<Option<usize>, Fail> {
+    let bytes = bytes_of(alloc, digits)?;
+    let op = number_of(&bytes)?;
+    for word in 0..bytes.len() / 4 {
+        let told = outline_with_ones(alloc, digits, word)?;
+        if !is_named(op, word, &told) {
+            return Ok(Some(word));
+        }
+    }
+    Ok(None)
+}
+
+/// The first of these with a word that isn't named when it is all ones, and the word.
+fn first_with_ones_otherwise(
+    alloc: Global,
+    rows: &[(&str, &str)],
+) -> Result<Option<(usize, usize)>, Fail> {
+    for at in 0..rows.len() {
+        if let Some(word) = first_word_that_differs(alloc, rows[at].1)? {
+            return Ok(Some((at, word)));
+        }
+    }
+    Ok(None)
 }
 
 #[test]
 fn a_word_of_ones_is_read_or_ends_by_name(rt: HostRuntime) -> Result<(), Fail> {
-    let alloc = rt.alloc();
-    for (name, digits) in VECTORS {
-        let bytes = bytes_of(alloc, digits)?;
-        let op = u32::from(*bytes.get(19).ok_or("a number")?);
-        for word in 0..bytes.len() / 4 {
-            let mut other = bytes_of(alloc, digits)?;
-            let end = 4 * word + 4;
-            other
-                .as_mut_slice()
-                .get_mut(4 * word..end)
-                .ok_or("a word")?
-                .fill(0xff);
-            let told = outline(alloc, &other);
-            let named = match word {
-                0 | 1 => told == Err(ArgsFault::GarbageAt { at: 0 }),
-                2 => told == Ok((0, CompoundEnd::Minor)),
-                3 => told == Ok((0, CompoundEnd::TooMany { count: u32::MAX })),
-                4 => told == Ok((0, CompoundEnd::Illegal { number: u32::MAX })),
-                _ => {
-                    told == Ok((1, CompoundEnd::Clean))
-                        || told == Ok((0, CompoundEnd::BadXdr { op }))
-                }
-            };
-            assert!(rt; named, "{name}, word {word}");
-        }
-    }
+    assert_eq!(rt; first_with_ones_otherwise(rt.alloc(), &VECTORS)?, None);
     Ok(())
 }
 
@@ -284,16 +368,27 @@ const FIELDS: [(&str, &str); 20] = [
     ),
 ];
 
+fn is_told(alloc: Global, digits: &str, text: &str) -> Result<bool, Fail> {
+    let bytes = bytes_of(alloc, digits)?;
+    let compound = read_compound(alloc, &bytes).map_err(|_| "a compound")?;
+    let op = compound.ops.items().first().ok_or("an operation")?;
+    let told = format!(in alloc; "{op:?}")?;
+    Ok(told.as_str() == text)
+}
+
+/// The first of these whose fields are other ones.
+fn first_told_otherwise(alloc: Global, rows: &[(&str, &str)]) -> Result<Option<usize>, Fail> {
+    for at in 0..rows.len() {
+        if !is_told(alloc, rows[at].0, rows[at].1)? {
+            return Ok(Some(at));
+        }
+    }
+    Ok(None)
+}
+
 #[test]
 fn fields_are_read_into_their_places(rt: HostRuntime) -> Result<(), Fail> {
-    let alloc = rt.alloc();
-    for (digits, text) in FIELDS {
-        let bytes = bytes_of(alloc, digits)?;
-        let compound = read_compound(alloc, &bytes).map_err(|_| "a compound")?;
-        let op = compound.ops.items().first().ok_or("an operation")?;
-        let told = format!(in alloc; "{op:?}")?;
-        assert_eq!(rt; told.as_str(), text);
-    }
+    assert_eq!(rt; first_told_otherwise(rt.alloc(), &FIELDS)?, None);
     Ok(())
 }
 
@@ -385,16 +480,26 @@ const OUTSIDE: [(&str, usize, u8); 14] = [
     ),
 ];
 
+fn is_outside(alloc: Global, digits: &str, place: usize, byte: u8) -> Result<bool, Fail> {
+    let mut bytes = bytes_of(alloc, digits)?;
+    let op = number_of(&bytes)?;
+    *bytes.get_mut(place).ok_or("a byte")? = byte;
+    Ok(outline(alloc, &bytes) == Ok((0, CompoundEnd::BadXdr { op })))
+}
+
+/// The first of these that is read, or ends otherwise.
+fn first_inside(alloc: Global, rows: &[(&str, usize, u8)]) -> Result<Option<usize>, Fail> {
+    for at in 0..rows.len() {
+        if !is_outside(alloc, rows[at].0, rows[at].1, rows[at].2)? {
+            return Ok(Some(at));
+        }
+    }
+    Ok(None)
+}
+
 #[test]
 fn numbers_outside_their_range_cant_be_read(rt: HostRuntime) -> Result<(), Fail> {
-    let alloc = rt.alloc();
-    for (digits, place, byte) in OUTSIDE {
-        let mut bytes = bytes_of(alloc, digits)?;
-        let op = u32::from(*bytes.get(19).ok_or("a number")?);
-        *bytes.get_mut(place).ok_or("a byte")? = byte;
-        let told = outline(alloc, &bytes);
-        assert_eq!(rt; told, Ok((0, CompoundEnd::BadXdr { op })), "{place} {byte}");
-    }
+    assert_eq!(rt; first_inside(rt.alloc(), &OUTSIDE)?, None);
     Ok(())
 }
 
@@ -630,46 +735,86 @@ fn around(
     Ok(bytes)
 }
 
+/// It is read up to its limit, and written so.
+fn reaches_limit(
+    alloc: Global,
+    front: &str,
+    limit: u32,
+    size: usize,
+    behind: &str,
+) -> Result<bool, Fail> {
+    let longest = around(alloc, front, limit, size, behind)?;
+    let again = rewritten(alloc, &longest)?;
+    Ok(again.as_slice() == longest.as_slice())
+}
+
+/// The operation can't be read with that length.
+fn ends_unread(
+    alloc: Global,
+    front: &str,
+    length: u32,
+    size: usize,
+    behind: &str,
+) -> Result<bool, Fail> {
+    let bytes = around(alloc, front, length, size, behind)?;
+    let op = u32::from(*bytes.get(15).ok_or("a number")?);
+    Ok(outline(alloc, &bytes) == Ok((0, CompoundEnd::BadXdr { op })))
+}
+
+/// It can't be read past its limit: one more, and what pads it; then a length far past the bytes.
+fn keeps_limit(
+    alloc: Global,
+    front: &str,
+    limit: u32,
+    size: usize,
+    behind: &str,
+) -> Result<bool, Fail> {
+    let (past, room) = (limit.saturating_add(1), size.saturating_add(4));
+    let longer = ends_unread(alloc, front, past, room, behind)?;
+    let endless = ends_unread(alloc, front, u32::MAX, size, behind)?;
+    Ok(longer && endless)
+}
+
+/// The first of these with another limit.
+fn first_limit_that_differs(
+    alloc: Global,
+    rows: &[(&str, u32, usize, &str)],
+) -> Result<Option<usize>, Fail> {
+    for at in 0..rows.len() {
+        let (front, limit, size, behind) = rows[at];
+        let reaches = reaches_limit(alloc, front, limit, size, behind)?;
+        let keeps = keeps_limit(alloc, front, limit, size, behind)?;
+        if !reaches || !keeps {
+            return Ok(Some(at));
+        }
+    }
+    Ok(None)
+}
+
 #[test]
 fn items_are_read_up_to_their_limit_and_not_past_it(rt: HostRuntime) -> Result<(), Fail> {
-    let alloc = rt.alloc();
-    for (front, limit, size, behind) in LIMITED {
-        let longest = around(alloc, front, limit, size, behind)?;
-        let op = u32::from(*longest.get(15).ok_or("a number")?);
-        assert_eq!(rt;
-            rewritten(alloc, &longest)?.as_slice(),
-            longest.as_slice(),
-            "{front}"
-        );
-        let refused = Ok((0, CompoundEnd::BadXdr { op }));
-        // one more, and what pads it
-        let longer = around(
-            alloc,
-            front,
-            limit.saturating_add(1),
-            size.saturating_add(4),
-            behind,
-        )?;
-        assert_eq!(rt; outline(alloc, &longer), refused, "{front}");
-        let endless = around(alloc, front, u32::MAX, size, behind)?;
-        assert_eq!(rt; outline(alloc, &endless), refused, "{front}");
-    }
+    assert_eq!(rt; first_limit_that_differs(rt.alloc(), &LIMITED)?, None);
     Ok(())
+}
+
+/// What is read of a tag of that length, over so many bytes, a minor version of 0 and no operation.
+fn outline_of_tag(alloc: Global, length: u32, size: usize) -> Result<Ending, Fail> {
+    let mut bytes = Vec::from_slice(alloc, &length.to_be_bytes())?;
+    bytes.resize(bytes.len().saturating_add(size).saturating_add(8), 0)?;
+    Ok(outline(alloc, &bytes))
 }
 
 #[test]
 fn a_tag_is_read_up_to_its_limit_and_not_past_it(rt: HostRuntime) -> Result<(), Fail> {
     let alloc = rt.alloc();
-    for (length, size, want) in [
-        (1024, 1024, Ok((0, CompoundEnd::Clean))),
-        (1025, 1028, Err(ArgsFault::GarbageAt { at: 0 })),
-        (u32::MAX, 1024, Err(ArgsFault::GarbageAt { at: 0 })),
-    ] {
-        let mut bytes = Vec::new(alloc);
-        bytes.extend_from_slice(&u32::to_be_bytes(length))?;
-        // the tag, a minor version of 0 and no operation
-        bytes.resize(bytes.len().saturating_add(size).saturating_add(8), 0)?;
-        assert_eq!(rt; outline(alloc, &bytes), want, "a tag of {length}");
-    }
+    let (longest, longer, endless) = (
+        outline_of_tag(alloc, 1024, 1024)?,
+        outline_of_tag(alloc, 1025, 1028)?,
+        outline_of_tag(alloc, u32::MAX, 1024)?,
+    );
+    let refused = Err(ArgsFault::GarbageAt { at: 0 });
+    assert_eq!(rt; longest, Ok((0, CompoundEnd::Clean)));
+    assert_eq!(rt; longer, refused);
+    assert_eq!(rt; endless, refused);
     Ok(())
 }

@@ -1,10 +1,7 @@
 //! Lengths and counts of results at their limits.
 use crate::results::{at, fault, whole};
 use nm_results::*;
-use nm_rules::{
-    AccessOk, Bytes, ChangeInfo, CreateOk, Fattr, Items, LockKind, OpStatus, OpenDelegation,
-    OpenOk, ReadOk, StateId, WriteOk,
-};
+use nm_rules::OpStatus;
 use std::alloc::Global;
 use std::test::Fail;
 
@@ -165,67 +162,108 @@ fn around(
     Ok(bytes)
 }
 
+/// Where the item can't be read with that length.
+fn fault_of(
+    alloc: Global,
+    front: &[u8],
+    length: u32,
+    size: usize,
+    behind: &[u8],
+) -> Result<Option<ResultsFault>, Fail> {
+    let bytes = around(alloc, front, length, size, behind)?;
+    Ok(fault(alloc, &bytes))
+}
+
+/// It is read up to its limit, and not past it: one more, and what pads it; then a length far past the bytes.
+fn keeps_limit(
+    alloc: Global,
+    front: &[u8],
+    limit: u32,
+    size: usize,
+    behind: &[u8],
+) -> Result<bool, Fail> {
+    let (past, room) = (limit.saturating_add(1), size.saturating_add(4));
+    let longest = fault_of(alloc, front, limit, size, behind)?;
+    let longer = fault_of(alloc, front, past, room, behind)?;
+    let endless = fault_of(alloc, front, u32::MAX, size, behind)?;
+    let item = at(front.len());
+    Ok(longest.is_none() && longer == item && endless == item)
+}
+
+fn has_limit(
+    alloc: Global,
+    status: OpStatus,
+    front: &[u8],
+    limit: u32,
+    size: usize,
+    behind: &[u8],
+) -> Result<bool, Fail> {
+    let front = whole(alloc, status, 1, front)?;
+    keeps_limit(alloc, &front, limit, size, behind)
+}
+
+/// The first of these with another limit.
+fn first_limit_that_differs(
+    alloc: Global,
+    rows: &[(OpStatus, &[u8], u32, usize, &[u8])],
+) -> Result<Option<usize>, Fail> {
+    for row in 0..rows.len() {
+        let (status, front, limit, size, behind) = rows[row];
+        if !has_limit(alloc, status, front, limit, size, behind)? {
+            return Ok(Some(row));
+        }
+    }
+    Ok(None)
+}
+
 #[test]
 fn items_are_read_up_to_their_limit_and_not_past_it(rt: HostRuntime) -> Result<(), Fail> {
-    let alloc = rt.alloc();
-    for (status, front, limit, size, behind) in LIMITED {
-        let front = whole(alloc, status, 1, front)?;
-        let item = at(front.len());
-        let longest = around(alloc, &front, limit, size, behind)?;
-        assert_eq!(rt; fault(alloc, &longest), None);
-        // one more, and what pads it; then a length far past the bytes
-        let past = limit.saturating_add(1);
-        let longer = around(alloc, &front, past, size.saturating_add(4), behind)?;
-        assert_eq!(rt; fault(alloc, &longer), item);
-        let endless = around(alloc, &front, u32::MAX, size, behind)?;
-        assert_eq!(rt; fault(alloc, &endless), item);
-    }
+    assert_eq!(rt; first_limit_that_differs(rt.alloc(), &LIMITED)?, None);
     Ok(())
 }
 
 #[test]
 fn a_tag_is_read_up_to_its_limit_and_not_past_it(rt: HostRuntime) -> Result<(), Fail> {
-    let alloc = rt.alloc();
     // a status, the tag, and no results
-    for (length, size, want) in [
-        (1_024, 1_024, None),
-        (1_025, 1_028, at(4)),
-        (u32::MAX, 1_024, at(4)),
-    ] {
-        let bytes = around(alloc, &[0, 0, 0, 0], length, size, &[0, 0, 0, 0])?;
-        assert_eq!(rt; fault(alloc, &bytes), want, "a tag of {length}");
-    }
+    let kept = keeps_limit(rt.alloc(), &[0; 4], 1_024, 1_024, &[0; 4])?;
+    assert_eq!(rt; kept, true);
     Ok(())
 }
+
+/// A word, and then that row so often, are told where the bytes end.
+fn is_told_at_the_end(
+    alloc: Global,
+    front: &[u8],
+    word: u32,
+    row: &[u8],
+    count: u32,
+) -> Result<bool, Fail> {
+    let mut bytes = around(alloc, front, word, 0, &[])?;
+    for _ in 0..count {
+        bytes.extend_from_slice(row)?;
+    }
+    Ok(fault(alloc, &bytes) == at(bytes.len()))
+}
+
+/// An OK of PUTROOTFH.
+const PUTROOTFH: [u8; 8] = [0, 0, 0, 24, 0, 0, 0, 0];
+
+/// A whole with the beginning of an OK of READDIR, up to the last word of its verifier.
+const DIRECTORY: [u8; 24] = [
+    0, 0, 0, 0, 0, 0, 0, 0, 0, 0, 0, 1, 0, 0, 0, 26, 0, 0, 0, 0, 0, 0, 0, 0,
+];
+
+/// An entry behind its flag.
+const ENTRY: [u8; 24] = [
+    0, 0, 0, 1, 0, 0, 0, 0, 0, 0, 0, 16, 0, 0, 0, 0, 0, 0, 0, 0, 0, 0, 0, 0,
+];
 
 #[test]
 fn rows_without_end_are_told_where_the_bytes_end(rt: HostRuntime) -> Result<(), Fail> {
     let alloc = rt.alloc();
-    // an OK of PUTROOTFH, and an entry of a directory behind its flag, as often as a record of 1 MiB has room for
-    let rows: [(&[u8], u32, &[u8], u32); 2] = [
-        (
-            &[0, 0, 0, 0, 0, 0, 0, 0],
-            u32::MAX,
-            &[0, 0, 0, 24, 0, 0, 0, 0],
-            131_000,
-        ),
-        (
-            &[
-                0, 0, 0, 0, 0, 0, 0, 0, 0, 0, 0, 1, 0, 0, 0, 26, 0, 0, 0, 0, 0, 0, 0, 0,
-            ],
-            0,
-            &[
-                0, 0, 0, 1, 0, 0, 0, 0, 0, 0, 0, 16, 0, 0, 0, 0, 0, 0, 0, 0, 0, 0, 0, 0,
-            ],
-            43_000,
-        ),
-    ];
-    for (front, word, row, count) in rows {
-        let mut bytes = around(alloc, front, word, 0, &[])?;
-        for _ in 0..count {
-            bytes.extend_from_slice(row)?;
-        }
-        assert_eq!(rt; fault(alloc, &bytes), at(bytes.len()));
-    }
+    // as often as a record of 1 MiB has room for
+    let results = is_told_at_the_end(alloc, &[0; 8], u32::MAX, &PUTROOTFH, 131_000)?;
+    let entries = is_told_at_the_end(alloc, &DIRECTORY, 0, &ENTRY, 43_000)?;
+    assert_eq!(rt; (results, entries), (true, true));
     Ok(())
 }

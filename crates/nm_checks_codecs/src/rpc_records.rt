@@ -64,32 +64,60 @@ fn two_missing_bytes_are_waited_for(rt: HostRuntime) -> Result<(), Fail> {
     Ok(())
 }
 
+/// The record and no other comes from these two pieces.
+fn comes_from(alloc: Global, front: &[u8], rest: &[u8], wanted: &[u8]) -> Result<bool, Fail> {
+    let mut records = Records::new(alloc, MIB);
+    records.feed(front)?;
+    records.feed(rest)?;
+    Ok(gives_all(&mut records, &[wanted]))
+}
+
+fn is_waited_for(alloc: Global, front: &[u8]) -> Result<bool, Fail> {
+    let mut records = Records::new(alloc, MIB);
+    records.feed(front)?;
+    Ok(records.next().is_none())
+}
+
+/// The first place where a stream of one record can be cut and it doesn't come from the two pieces, or comes too early or late.
+fn first_cut_that_differs(
+    alloc: Global,
+    stream: &[u8],
+    wanted: &[u8],
+) -> Result<Option<usize>, Fail> {
+    for at in 0..=stream.len() {
+        let (front, rest) = stream.split_at(at);
+        let waits = is_waited_for(alloc, front)?;
+        if waits != (at < stream.len()) || !comes_from(alloc, front, rest, wanted)? {
+            return Ok(Some(at));
+        }
+    }
+    Ok(None)
+}
+
 #[test]
 fn a_record_comes_from_any_two_pieces(rt: HostRuntime) -> Result<(), Fail> {
-    for at in 0..=CUT.len() {
-        let (front, rest) = CUT.as_slice().split_at(at);
-        let mut records = Records::new(rt.alloc(), MIB);
-        records.feed(front)?;
-        assert_eq!(rt; records.next().is_none(), at < CUT.len(), "cut at {at}");
-        let mut records = Records::new(rt.alloc(), MIB);
-        records.feed(front)?;
-        records.feed(rest)?;
-        assert!(rt;
-            gives_all(&mut records, &[&[0xaa, 0xbb, 0xcc]]),
-            "cut at {at}"
-        );
-    }
+    let first = first_cut_that_differs(rt.alloc(), &CUT, &[0xaa, 0xbb, 0xcc])?;
+    assert_eq!(rt; first, None);
     Ok(())
+}
+
+/// Feeds single bytes. The first before which a record is there.
+fn first_early_byte(records: &mut Records, stream: &[u8]) -> Result<Option<usize>, Fail> {
+    for at in 0..stream.len() {
+        if records.next().is_some() {
+            return Ok(Some(at));
+        }
+        records.feed(&[stream[at]])?;
+    }
+    Ok(None)
 }
 
 #[test]
 fn a_record_comes_from_single_bytes(rt: HostRuntime) -> Result<(), Fail> {
     let mut records = Records::new(rt.alloc(), MIB);
-    for byte in CUT {
-        assert!(rt; records.next().is_none());
-        records.feed(&[byte])?;
-    }
-    assert!(rt; gives_all(&mut records, &[&[0xaa, 0xbb, 0xcc]]));
+    let early = first_early_byte(&mut records, &CUT)?;
+    let comes = gives_all(&mut records, &[&[0xaa, 0xbb, 0xcc]]);
+    assert_eq!(rt; (early, comes), (None, true));
     Ok(())
 }
 
@@ -164,18 +192,38 @@ fn empty_fragments_are_taken(rt: HostRuntime) -> Result<(), Fail> {
     Ok(())
 }
 
+/// The records come from the stream in pieces of that size.
+fn come_in_pieces(
+    alloc: Global,
+    stream: &[u8],
+    size: usize,
+    wanted: &[&[u8]],
+) -> Result<bool, Fail> {
+    let mut records = Records::new(alloc, 15);
+    for piece in stream.chunks(size.max(1)) {
+        feed_again(&mut records, piece)?;
+    }
+    Ok(gives_all(&mut records, wanted))
+}
+
+/// The first size of pieces from which other records come.
+fn first_size_that_differs(
+    alloc: Global,
+    stream: &[u8],
+    wanted: &[&[u8]],
+) -> Result<Option<usize>, Fail> {
+    for size in 1..=stream.len() {
+        if !come_in_pieces(alloc, stream, size, wanted)? {
+            return Ok(Some(size));
+        }
+    }
+    Ok(None)
+}
+
 #[test]
 fn what_python_packed_is_taken(rt: HostRuntime) -> Result<(), Fail> {
-    for size in (1..=PACKED.len()).rev() {
-        let mut records = Records::new(rt.alloc(), 15);
-        for piece in PACKED.chunks(size) {
-            feed_again(&mut records, piece)?;
-        }
-        assert!(rt;
-            gives_all(&mut records, &PACKED_RECORDS),
-            "pieces of {size}"
-        );
-    }
+    let first = first_size_that_differs(rt.alloc(), &PACKED, &PACKED_RECORDS)?;
+    assert_eq!(rt; first, None);
     Ok(())
 }
 
@@ -188,26 +236,37 @@ fn in_pieces(alloc: Global, stream: &[u8], size: usize) -> Result<Vec<Vec<u8>>, 
     Ok(pieces)
 }
 
+/// The records are these.
+fn are_these(records: &[Vec<u8>], wanted: &[&[u8]]) -> bool {
+    if records.len() != wanted.len() {
+        return false;
+    }
+    for at in 0..wanted.len() {
+        if records[at].as_slice() != wanted[at] {
+            return false;
+        }
+    }
+    true
+}
+
+/// The stream is split so, in pieces of that size, and refused where a record may have one byte less than the longest.
+fn is_split(alloc: Global, stream: &[u8], size: usize, wanted: &[&[u8]]) -> Result<bool, Fail> {
+    let pieces = in_pieces(alloc, stream, size)?;
+    let refused = split_records(alloc, 14, &pieces).err();
+    let records = split_records(alloc, 15, &pieces)?;
+    let same = are_these(&records, wanted);
+    Ok(same && refused == Some(RecordFault::TooLong { got: 15 }))
+}
+
 #[test]
 fn pieces_are_split(rt: HostRuntime) -> Result<(), Fail> {
     let alloc = rt.alloc();
-    for size in [1, 7, 69] {
-        let pieces = in_pieces(alloc, &PACKED, size)?;
-        let records = split_records(alloc, 15, &pieces)?;
-        assert_eq!(rt; records.len(), PACKED_RECORDS.len());
-        for (i, record) in records.iter().enumerate() {
-            let wanted = PACKED_RECORDS.get(i).ok_or("a record of the stream")?;
-            assert_eq!(rt;
-                record.as_slice(),
-                *wanted,
-                "record {i} of pieces of {size}"
-            );
-        }
-        match split_records(alloc, 14, &pieces) {
-            Ok(_) => assert!(rt; false, "15 bytes are taken where 14 may be"),
-            Err(fault) => assert_eq!(rt; fault, RecordFault::TooLong { got: 15 }),
-        }
-    }
+    let split = [
+        is_split(alloc, &PACKED, 1, &PACKED_RECORDS)?,
+        is_split(alloc, &PACKED, 7, &PACKED_RECORDS)?,
+        is_split(alloc, &PACKED, 69, &PACKED_RECORDS)?,
+    ];
+    assert_eq!(rt; split, [true; 3]);
     Ok(())
 }
 

@@ -1,5 +1,6 @@
 //! The items of XDR (RFC 4506).
 use nm_xdr::*;
+use std::alloc::Global;
 use std::test::Fail;
 
 /// The file of the example in RFC 4506, section 7: its name, its kind 2 (an executable with its interpreter),
@@ -86,107 +87,179 @@ fn what_python_packed_is_taken(rt: HostRuntime) -> Result<(), Fail> {
     Ok(())
 }
 
+/// Numbers and their bytes.
+const WORDS: [(u32, [u8; 4]); 6] = [
+    (0, [0, 0, 0, 0]),
+    (1, [0, 0, 0, 1]),
+    (256, [0, 0, 1, 0]),
+    (0x7fff_ffff, [0x7f, 0xff, 0xff, 0xff]),
+    (0x8000_0000, [0x80, 0, 0, 0]),
+    (0xffff_ffff, [0xff, 0xff, 0xff, 0xff]),
+];
+
+const HYPERS: [(u64, [u8; 8]); 5] = [
+    (0, [0, 0, 0, 0, 0, 0, 0, 0]),
+    (1, [0, 0, 0, 0, 0, 0, 0, 1]),
+    (0x1_0000_0000, [0, 0, 0, 1, 0, 0, 0, 0]),
+    (1 << 63, [0x80, 0, 0, 0, 0, 0, 0, 0]),
+    (
+        0xffff_ffff_ffff_ffff,
+        [0xff, 0xff, 0xff, 0xff, 0xff, 0xff, 0xff, 0xff],
+    ),
+];
+
+/// The number is put as these bytes, and taken of them.
+fn is_word(alloc: Global, number: u32, bytes: &[u8]) -> Result<bool, Fail> {
+    let mut writer = Writer::new(alloc);
+    writer.put_u32(number)?;
+    let is_taken = Cursor::new(bytes).take_u32() == Ok(number);
+    Ok(is_taken && writer.finish().as_slice() == bytes)
+}
+
+fn is_hyper(alloc: Global, number: u64, bytes: &[u8]) -> Result<bool, Fail> {
+    let mut writer = Writer::new(alloc);
+    writer.put_u64(number)?;
+    let is_taken = Cursor::new(bytes).take_u64() == Ok(number);
+    Ok(is_taken && writer.finish().as_slice() == bytes)
+}
+
+/// The first of these that has other bytes.
+fn first_word_otherwise(alloc: Global, rows: &[(u32, [u8; 4])]) -> Result<Option<usize>, Fail> {
+    for row in 0..rows.len() {
+        if !is_word(alloc, rows[row].0, &rows[row].1)? {
+            return Ok(Some(row));
+        }
+    }
+    Ok(None)
+}
+
+fn first_hyper_otherwise(alloc: Global, rows: &[(u64, [u8; 8])]) -> Result<Option<usize>, Fail> {
+    for row in 0..rows.len() {
+        if !is_hyper(alloc, rows[row].0, &rows[row].1)? {
+            return Ok(Some(row));
+        }
+    }
+    Ok(None)
+}
+
 #[test]
 fn numbers_have_their_high_byte_first(rt: HostRuntime) -> Result<(), Fail> {
-    let words: [(u32, [u8; 4]); 6] = [
-        (0, [0, 0, 0, 0]),
-        (1, [0, 0, 0, 1]),
-        (256, [0, 0, 1, 0]),
-        (0x7fff_ffff, [0x7f, 0xff, 0xff, 0xff]),
-        (0x8000_0000, [0x80, 0, 0, 0]),
-        (u32::MAX, [0xff, 0xff, 0xff, 0xff]),
-    ];
-    for (number, bytes) in words {
-        let mut writer = Writer::new(rt.alloc());
-        writer.put_u32(number)?;
-        assert_eq!(rt; writer.finish().as_slice(), bytes.as_slice(), "at {number}");
-        assert_eq!(rt; Cursor::new(&bytes).take_u32()?, number);
-    }
-    let hypers: [(u64, [u8; 8]); 5] = [
-        (0, [0, 0, 0, 0, 0, 0, 0, 0]),
-        (1, [0, 0, 0, 0, 0, 0, 0, 1]),
-        (0x1_0000_0000, [0, 0, 0, 1, 0, 0, 0, 0]),
-        (1 << 63, [0x80, 0, 0, 0, 0, 0, 0, 0]),
-        (u64::MAX, [0xff, 0xff, 0xff, 0xff, 0xff, 0xff, 0xff, 0xff]),
-    ];
-    for (number, bytes) in hypers {
-        let mut writer = Writer::new(rt.alloc());
-        writer.put_u64(number)?;
-        assert_eq!(rt; writer.finish().as_slice(), bytes.as_slice(), "at {number}");
-        assert_eq!(rt; Cursor::new(&bytes).take_u64()?, number);
-    }
+    assert_eq!(rt; first_word_otherwise(rt.alloc(), &WORDS)?, None);
+    assert_eq!(rt; first_hyper_otherwise(rt.alloc(), &HYPERS)?, None);
     Ok(())
+}
+
+/// The items of the first 0 to 5 bytes of `abcde`.
+const PADDED: [&[u8]; 6] = [
+    &[0, 0, 0, 0],
+    &[0, 0, 0, 1, 97, 0, 0, 0],
+    &[0, 0, 0, 2, 97, 98, 0, 0],
+    &[0, 0, 0, 3, 97, 98, 99, 0],
+    &[0, 0, 0, 4, 97, 98, 99, 100],
+    &[0, 0, 0, 5, 97, 98, 99, 100, 101, 0, 0, 0],
+];
+
+/// At most 5 bytes are put as this item, and taken of it.
+fn is_opaque(alloc: Global, bytes: &[u8], item: &[u8]) -> Result<bool, Fail> {
+    if bytes.len() > 5 {
+        return Ok(false);
+    }
+    let mut writer = Writer::new(alloc);
+    writer.put_opaque(bytes)?;
+    let is_taken = Cursor::new(item).take_opaque(5) == Ok(bytes);
+    Ok(is_taken && writer.finish().as_slice() == item)
+}
+
+/// The same without their length.
+fn is_fixed(alloc: Global, bytes: &[u8], item: &[u8]) -> Result<bool, Fail> {
+    let mut writer = Writer::new(alloc);
+    writer.put_fixed(bytes)?;
+    let is_taken = Cursor::new(item).take_fixed(bytes.len()) == Ok(bytes);
+    Ok(is_taken && writer.finish().as_slice() == item)
+}
+
+/// The first length of the text with another item.
+fn first_item_otherwise(
+    alloc: Global,
+    text: &[u8],
+    items: &[&[u8]],
+) -> Result<Option<usize>, Fail> {
+    for len in 0..items.len() {
+        let bytes = text.get(..len).ok_or("a length of the text")?;
+        let fixed = items[len].get(4..).ok_or("a length first")?;
+        if !is_opaque(alloc, bytes, items[len])? || !is_fixed(alloc, bytes, fixed)? {
+            return Ok(Some(len));
+        }
+    }
+    Ok(None)
 }
 
 #[test]
 fn bytes_are_padded_to_fours(rt: HostRuntime) -> Result<(), Fail> {
-    let spelled: [&[u8]; 6] = [
-        &[0, 0, 0, 0],
-        &[0, 0, 0, 1, 97, 0, 0, 0],
-        &[0, 0, 0, 2, 97, 98, 0, 0],
-        &[0, 0, 0, 3, 97, 98, 99, 0],
-        &[0, 0, 0, 4, 97, 98, 99, 100],
-        &[0, 0, 0, 5, 97, 98, 99, 100, 101, 0, 0, 0],
-    ];
-    let text = b"abcde";
-    for (n, item) in spelled.into_iter().enumerate() {
-        let bytes = text.get(..n).ok_or("a length of the text")?;
-        let mut writer = Writer::new(rt.alloc());
-        writer.put_opaque(bytes)?;
-        assert_eq!(rt; writer.finish().as_slice(), item, "opaque of {n}");
-        assert_eq!(rt; Cursor::new(item).take_opaque(5)?, bytes, "opaque of {n}");
-
-        let fixed = item.get(4..).ok_or("a length first")?;
-        let mut writer = Writer::new(rt.alloc());
-        writer.put_fixed(bytes)?;
-        assert_eq!(rt; writer.finish().as_slice(), fixed, "fixed of {n}");
-        assert_eq!(rt; Cursor::new(fixed).take_fixed(n)?, bytes, "fixed of {n}");
-    }
+    assert_eq!(rt; first_item_otherwise(rt.alloc(), b"abcde", &PADDED)?, None);
     Ok(())
+}
+
+/// Words, and what is taken of them as flags.
+const FLAGS: [([u8; 4], Result<bool, XdrFault>); 5] = [
+    ([0, 0, 0, 0], Ok(false)),
+    ([0, 0, 0, 1], Ok(true)),
+    ([0, 0, 0, 2], Err(XdrFault::Bool { at: 0, got: 2 })),
+    (
+        [1, 0, 0, 0],
+        Err(XdrFault::Bool {
+            at: 0,
+            got: 0x0100_0000,
+        }),
+    ),
+    (
+        [0xff, 0xff, 0xff, 0xff],
+        Err(XdrFault::Bool {
+            at: 0,
+            got: 0xffff_ffff,
+        }),
+    ),
+];
+
+/// The first of these that is taken otherwise.
+fn first_flag_otherwise(rows: &[([u8; 4], Result<bool, XdrFault>)]) -> Option<usize> {
+    for row in 0..rows.len() {
+        if Cursor::new(&rows[row].0).take_bool() != rows[row].1 {
+            return Some(row);
+        }
+    }
+    None
 }
 
 #[test]
 fn flags_are_nought_or_one(rt: HostRuntime) {
-    let words: [([u8; 4], Result<bool, XdrFault>); 5] = [
-        ([0, 0, 0, 0], Ok(false)),
-        ([0, 0, 0, 1], Ok(true)),
-        ([0, 0, 0, 2], Err(XdrFault::Bool { at: 0, got: 2 })),
-        (
-            [1, 0, 0, 0],
-            Err(XdrFault::Bool {
-                at: 0,
-                got: 0x0100_0000,
-            }),
-        ),
-        (
-            [0xff, 0xff, 0xff, 0xff],
-            Err(XdrFault::Bool {
-                at: 0,
-                got: u32::MAX,
-            }),
-        ),
-    ];
-    for (bytes, want) in words {
-        assert_eq!(rt; Cursor::new(&bytes).take_bool(), want);
+    assert_eq!(rt; first_flag_otherwise(&FLAGS), None);
+}
+
+/// Items whose padding isn't 0, and where it isn't.
+const FILLED: [(&[u8], usize); 6] = [
+    (&[0, 0, 0, 1, 0x61, 0, 0, 1], 7),
+    (&[0, 0, 0, 1, 0x61, 0, 2, 1], 6),
+    (&[0, 0, 0, 1, 0x61, 3, 2, 1], 5),
+    (&[0, 0, 0, 2, 0x61, 0, 0xff, 0], 6),
+    (&[0, 0, 0, 3, 0, 0, 0, 0x80], 7),
+    (&[0, 0, 0, 5, 1, 2, 3, 4, 5, 0, 9, 0], 10),
+];
+
+/// The first of these that is told at another place.
+fn first_padding_otherwise(rows: &[(&[u8], usize)]) -> Option<usize> {
+    for row in 0..rows.len() {
+        let (bytes, at) = rows[row];
+        if Cursor::new(bytes).take_opaque(8) != Err(XdrFault::Padding { at }) {
+            return Some(row);
+        }
     }
+    None
 }
 
 #[test]
 fn padding_is_zeros(rt: HostRuntime) {
-    let items: [(&[u8], usize); 6] = [
-        (&[0, 0, 0, 1, 0x61, 0, 0, 1], 7),
-        (&[0, 0, 0, 1, 0x61, 0, 2, 1], 6),
-        (&[0, 0, 0, 1, 0x61, 3, 2, 1], 5),
-        (&[0, 0, 0, 2, 0x61, 0, 0xff, 0], 6),
-        (&[0, 0, 0, 3, 0, 0, 0, 0x80], 7),
-        (&[0, 0, 0, 5, 1, 2, 3, 4, 5, 0, 9, 0], 10),
-    ];
-    for (bytes, at) in items {
-        assert_eq!(rt;
-            Cursor::new(bytes).take_opaque(8),
-            Err(XdrFault::Padding { at })
-        );
-    }
+    assert_eq!(rt; first_padding_otherwise(&FILLED), None);
     assert_eq!(rt;
         Cursor::new(&[1, 2, 3, 4, 5, 0, 0, 6]).take_fixed(5),
         Err(XdrFault::Padding { at: 7 })
@@ -247,32 +320,51 @@ fn too_long_comes_before_short_and_short_before_padding(rt: HostRuntime) {
     );
 }
 
+/// Where the items of the file end that follow its name.
+const ENDS: [usize; 4] = [20, 28, 36, 48];
+
+/// The last of these ends that isn't past a length, or that of the name.
+fn last_end(ends: &[usize], len: usize) -> usize {
+    let mut last = 16;
+    for end in ends {
+        if *end <= len {
+            last = *end;
+        }
+    }
+    last
+}
+
+/// Takes the items that follow the name of the file, up to the first that can't be taken.
+fn take_rest(cursor: &mut Cursor<'_>) -> Result<(), XdrFault> {
+    cursor.take_u32()?;
+    for _ in 0..3 {
+        cursor.take_opaque(255)?;
+    }
+    Ok(())
+}
+
+/// The fault of the file that is cut after so many bytes, and the place then.
+fn cut_fault(bytes: &[u8]) -> Result<(Option<XdrFault>, usize), Fail> {
+    let mut cursor = Cursor::new(bytes);
+    cursor.take_opaque(255)?;
+    let fault = take_rest(&mut cursor).err();
+    Ok((fault, cursor.place()))
+}
+
+/// The first length of the file, from the end of its name on, at which it isn't short at the item that is cut.
+fn first_cut_that_differs(bytes: &[u8], ends: &[usize]) -> Result<Option<usize>, Fail> {
+    for len in 16..bytes.len() {
+        let at = last_end(ends, len);
+        if cut_fault(bytes.split_at(len).0)? != (Some(XdrFault::Short { at }), at) {
+            return Ok(Some(len));
+        }
+    }
+    Ok(None)
+}
+
 #[test]
 fn a_cut_item_is_short_at_its_first_byte(rt: HostRuntime) -> Result<(), Fail> {
-    for len in 16..48 {
-        let mut cursor = Cursor::new(FILE.get(..len).ok_or("a length of the file")?);
-        cursor.take_opaque(255)?;
-        let mut ends = 16;
-        let mut fault = None;
-        for (part, end) in [20, 28, 36, 48].into_iter().enumerate() {
-            let taken = if part == 0 {
-                cursor.take_u32().err()
-            } else {
-                cursor.take_opaque(255).err()
-            };
-            if let Some(first) = taken {
-                fault = Some(first);
-                break;
-            }
-            ends = end;
-        }
-        assert_eq!(rt;
-            fault,
-            Some(XdrFault::Short { at: ends }),
-            "cut after {len}"
-        );
-        assert_eq!(rt; cursor.place(), ends, "cut after {len}");
-    }
+    assert_eq!(rt; first_cut_that_differs(&FILE, &ENDS)?, None);
     Ok(())
 }
 

@@ -1,9 +1,10 @@
 //! Names and data on one file system, with expected answers from RFC 7530, 5, 12 and 16.
-use crate::state_steps::{How, Row, Step, What, first_other_of, last_value};
+use crate::state_steps::{How, Row, Step, What, first_other_of, last_tells};
 use nm_rules::{
     AccessOk, ChangeInfo, CreateOk, Created, FileAttrs, GetAttrOk, Items, OpStatus, ReplyValue,
     StateId, StateRef,
 };
+use std::alloc::Global;
 use std::test::Fail;
 
 const NAMES: [Row; 13] = [
@@ -37,14 +38,13 @@ fn names_come_and_go(rt: HostRuntime) -> Result<(), Fail> {
     Ok(())
 }
 
-#[test]
-fn a_directory_is_made_with_its_mode(rt: HostRuntime) -> Result<(), Fail> {
-    let alloc = rt.alloc();
-    let steps = [
-        Step::Ask(b'A', 1, What::MakeDir(b"d")),
-        Step::Ask(b'A', 16, What::Attributes),
-    ];
-    let made = Created {
+const MAKES: [Step<'static>; 2] = [
+    Step::Ask(b'A', 1, What::MakeDir(b"d")),
+    Step::Ask(b'A', 16, What::Attributes),
+];
+
+fn made(alloc: Global) -> Result<ReplyValue, Fail> {
+    Ok(ReplyValue::Create(Some(Created {
         ok: CreateOk {
             cinfo: ChangeInfo {
                 before: 0,
@@ -53,23 +53,29 @@ fn a_directory_is_made_with_its_mode(rt: HostRuntime) -> Result<(), Fail> {
             attrset: Items::from_slice(alloc, &[0, 2])?,
         },
         file: 16,
-    };
-    let attributes = FileAttrs {
-        kind: 2,
-        mode: 0o700,
-        size: 0,
-        change: 1,
-        file: 16,
-    };
-    let words = Items::from_slice(alloc, &[16])?;
-    assert_eq!(rt;
-        last_value(alloc, steps.split_at(1).0)?,
-        ReplyValue::Create(Some(made))
-    );
-    assert_eq!(rt;
-        last_value(alloc, &steps)?,
-        ReplyValue::GetAttr(Some(GetAttrOk { attributes, words }))
-    );
+    })))
+}
+
+// The attributes of file 16 after the first change, with its size alone asked.
+fn attributes(alloc: Global, kind: u32, mode: u32, size: u64) -> Result<ReplyValue, Fail> {
+    Ok(ReplyValue::GetAttr(Some(GetAttrOk {
+        attributes: FileAttrs {
+            kind,
+            mode,
+            size,
+            change: 1,
+            file: 16,
+        },
+        words: Items::from_slice(alloc, &[16])?,
+    })))
+}
+
+#[test]
+fn a_directory_is_made_with_its_mode(rt: HostRuntime) -> Result<(), Fail> {
+    let alloc = rt.alloc();
+    let is_made = last_tells(alloc, MAKES.as_slice().split_at(1).0, &made(alloc)?)?;
+    let is_told = last_tells(alloc, &MAKES, &attributes(alloc, 2, 0o700, 0)?)?;
+    assert_eq!(rt; (is_made, is_told), (true, true));
     Ok(())
 }
 
@@ -103,33 +109,22 @@ fn names_are_looked_up(rt: HostRuntime) -> Result<(), Fail> {
     Ok(())
 }
 
+const TOLD: [Step<'static>; 3] = [
+    Step::Ask(b'A', 1, What::Open(1, b"f", How::Sized(5), 1, 0)),
+    Step::Ask(b'A', 16, What::Access(0x1fe)),
+    Step::Ask(b'A', 16, What::Attributes),
+];
+
 #[test]
 fn rights_and_attributes_are_told(rt: HostRuntime) -> Result<(), Fail> {
     let alloc = rt.alloc();
-    let steps = [
-        Step::Ask(b'A', 1, What::Open(1, b"f", How::Sized(5), 1, 0)),
-        Step::Ask(b'A', 16, What::Access(0x1fe)),
-        Step::Ask(b'A', 16, What::Attributes),
-    ];
-    assert_eq!(rt;
-        last_value(alloc, steps.split_at(2).0)?,
-        ReplyValue::Access(Some(AccessOk {
-            supported: 0x3e,
-            access: 0x3e
-        }))
-    );
-    let attributes = FileAttrs {
-        kind: 1,
-        mode: 0o644,
-        size: 5,
-        change: 1,
-        file: 16,
-    };
-    let words = Items::from_slice(alloc, &[16])?;
-    assert_eq!(rt;
-        last_value(alloc, &steps)?,
-        ReplyValue::GetAttr(Some(GetAttrOk { attributes, words }))
-    );
+    let rights = ReplyValue::Access(Some(AccessOk {
+        supported: 0x3e,
+        access: 0x3e,
+    }));
+    let rights = last_tells(alloc, TOLD.as_slice().split_at(2).0, &rights)?;
+    let attributes = last_tells(alloc, &TOLD, &attributes(alloc, 1, 0o644, 5)?)?;
+    assert_eq!(rt; (rights, attributes), (true, true));
     Ok(())
 }
 

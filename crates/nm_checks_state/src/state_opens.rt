@@ -1,11 +1,12 @@
 //! Opens on one file system, with expected answers from RFC 7530, 9.1.7, 9.9, 16.2, 16.16, 16.18 and 16.19.
 use crate::state_steps::{
-    How, Row, Step, What, client, first_other_of, go, last_value, no_files, open, stateid,
+    How, Row, Step, What, client, first_other_of, go, last_tells, no_files, open, stateid,
 };
 use nm_rules::{
     Bytes, Call, ChangeInfo, Claim, Deed, Event, HeldKind, HeldTable, Instance, Items, OpStatus,
     OpenArgs, OpenDelegation, OpenOk, OpenType, Opened, ReplyValue, StateId, StateRef, Verdict,
 };
+use nm_state::FsState;
 use std::alloc::Global;
 use std::test::Fail;
 
@@ -199,23 +200,15 @@ fn first_opened(alloc: Global) -> ReplyValue {
 fn a_repeat_gets_the_kept_reply(rt: HostRuntime) -> Result<(), Fail> {
     let alloc = rt.alloc();
     let steps = REPEATED.as_slice();
-    assert_eq!(rt;
-        last_value(alloc, steps.split_at(1).0)?,
-        first_opened(alloc)
-    );
-    assert_eq!(rt;
-        last_value(alloc, steps.split_at(2).0)?,
-        first_opened(alloc)
-    );
-    let confirmed = Some(stateid(2, 1));
-    assert_eq!(rt;
-        last_value(alloc, steps.split_at(3).0)?,
-        ReplyValue::OpenConfirm(confirmed)
-    );
-    assert_eq!(rt;
-        last_value(alloc, steps)?,
-        ReplyValue::OpenConfirm(confirmed)
-    );
+    let confirmed = ReplyValue::OpenConfirm(Some(stateid(2, 1)));
+    let opened = first_opened(alloc);
+    let told = [
+        last_tells(alloc, steps.split_at(1).0, &opened)?,
+        last_tells(alloc, steps.split_at(2).0, &opened)?,
+        last_tells(alloc, steps.split_at(3).0, &confirmed)?,
+        last_tells(alloc, steps, &confirmed)?,
+    ];
+    assert_eq!(rt; told, [true; 4]);
     Ok(())
 }
 
@@ -372,7 +365,14 @@ fn what_is_wrong_with_an_open_comes_in_order(rt: HostRuntime) -> Result<(), Fail
     Ok(())
 }
 
-// How an OPEN is answered where `f`, number 16, is there.
+// A file system where `f`, number 16, is there.
+fn with_f(alloc: Global) -> Result<FsState, Fail> {
+    let mut state = no_files(alloc)?;
+    go(alloc, &mut state, &[open(b'A', 1, b"f", 1, 0)])?;
+    Ok(state)
+}
+
+// How an OPEN is answered there.
 fn claimed(
     alloc: Global,
     caller: Option<Instance>,
@@ -389,44 +389,46 @@ fn claimed(
         claim,
     });
     let asked = Event::Asked(Call { caller, file, deed }, verdict);
-    let mut state = no_files(alloc)?;
-    go(alloc, &mut state, &[open(b'A', 1, b"f", 1, 0)])?;
-    Ok(state.answer(&asked)?.status)
+    Ok(with_f(alloc)?.answer(&asked)?.status)
+}
+
+fn name(alloc: Global) -> Result<Bytes, Fail> {
+    Ok(Bytes::from_slice(alloc, b"f")?)
+}
+
+#[test]
+fn a_name_is_claimed(rt: HostRuntime) -> Result<(), Fail> {
+    let alloc = rt.alloc();
+    let caller = Some(client(b'A')?);
+    let null = Claim::Null(name(alloc)?);
+    let moved = claimed(alloc, caller, 1, null, Verdict::LeaseMoved)?;
+    let null = Claim::Null(name(alloc)?);
+    let stale = claimed(alloc, None, 1, null, Verdict::LeaseMoved)?;
+    assert_eq!(rt;
+        (moved, stale),
+        (OpStatus::LeaseMoved, OpStatus::StaleClientId)
+    );
+    Ok(())
 }
 
 #[test]
 fn claims_are_judged_apart(rt: HostRuntime) -> Result<(), Fail> {
     let alloc = rt.alloc();
     let caller = Some(client(b'A')?);
-    let name = Bytes::from_slice(alloc, b"f")?;
-    let claim = Claim::Null(name.copy()?);
-    assert_eq!(rt;
-        claimed(alloc, caller, 1, claim, Verdict::LeaseMoved)?,
-        OpStatus::LeaseMoved
-    );
-    let claim = Claim::Null(name.copy()?);
-    assert_eq!(rt;
-        claimed(alloc, None, 1, claim, Verdict::LeaseMoved)?,
-        OpStatus::StaleClientId
-    );
-    assert_eq!(rt;
-        claimed(alloc, caller, 16, Claim::Previous(0), Verdict::Pass)?,
-        OpStatus::NoGrace
-    );
-    assert_eq!(rt;
-        claimed(alloc, caller, 1, Claim::Previous(0), Verdict::Pass)?,
-        OpStatus::IsDir
-    );
-    let claim = Claim::DelegatePrev(name.copy()?);
-    assert_eq!(rt;
-        claimed(alloc, caller, 1, claim, Verdict::Pass)?,
-        OpStatus::NotSupp
-    );
     let stateid = StateRef::Named(stateid(1, 1));
-    let claim = Claim::DelegateCur { stateid, name };
+    let grace = claimed(alloc, caller, 16, Claim::Previous(0), Verdict::Pass)?;
+    let root = claimed(alloc, caller, 1, Claim::Previous(0), Verdict::Pass)?;
+    let previous = Claim::DelegatePrev(name(alloc)?);
+    let previous = claimed(alloc, caller, 1, previous, Verdict::Pass)?;
+    let current = Claim::DelegateCur {
+        stateid,
+        name: name(alloc)?,
+    };
+    let current = claimed(alloc, caller, 1, current, Verdict::LeaseMoved)?;
+    assert_eq!(rt; (grace, root), (OpStatus::NoGrace, OpStatus::IsDir));
     assert_eq!(rt;
-        claimed(alloc, caller, 1, claim, Verdict::LeaseMoved)?,
-        OpStatus::BadStateId
+        (previous, current),
+        (OpStatus::NotSupp, OpStatus::BadStateId)
     );
     Ok(())
 }
@@ -441,27 +443,30 @@ fn shown_by_a_copy(alloc: Global) -> Result<HeldTable, Fail> {
         Step::Ask(b'A', 16, What::Close(3, 2, 1)),
     ];
     go(alloc, &mut state, &rest)?;
-    state
-        .table()?
-        .items()
-        .is_empty()
-        .then_some(())
-        .ok_or("it is closed")?;
+    if !state.table()?.items().is_empty() {
+        return Err("it is closed".into());
+    }
     Ok(copy.table()?)
+}
+
+fn shows(table: &HeldTable, a: &Instance) -> bool {
+    match table.items() {
+        [row] => {
+            (row.counter, row.seqid, row.file) == (1, 1, 16)
+                && row.name.items() == b"f".as_slice()
+                && row.owner.items() == b"o".as_slice()
+                && row.instance.is_same(a)
+                && row.row == HeldKind::Open { access: 3, deny: 1 }
+        }
+        _ => false,
+    }
 }
 
 #[test]
 fn what_is_held_is_shown_and_copied(rt: HostRuntime) -> Result<(), Fail> {
-    let alloc = rt.alloc();
     let a = client(b'A')?;
-    let table = shown_by_a_copy(alloc)?;
-    let rows = table.items();
-    assert_eq!(rt; rows.len(), 1);
-    assert_eq!(rt; (rows[0].counter, rows[0].seqid, rows[0].file), (1, 1, 16));
-    assert_eq!(rt; rows[0].name.items(), b"f".as_slice());
-    assert_eq!(rt; rows[0].owner.items(), b"o".as_slice());
-    assert_eq!(rt; rows[0].instance, a);
-    assert_eq!(rt; rows[0].row, HeldKind::Open { access: 3, deny: 1 });
+    let table = shown_by_a_copy(rt.alloc())?;
+    assert_eq!(rt; shows(&table, &a), true);
     Ok(())
 }
 
@@ -474,47 +479,64 @@ const HELD: [Step<'static>; 5] = [
     Step::End(b'B'),
 ];
 
-// The holders after so many of these, and how many rows there are.
-fn holders(alloc: Global, count: usize) -> Result<(Vec<Instance>, usize), Fail> {
+// The state after so many of these.
+fn state_after(alloc: Global, count: usize) -> Result<FsState, Fail> {
     let steps = HELD.as_slice().get(..count).ok_or("so many steps")?;
     let mut state = no_files(alloc)?;
     go(alloc, &mut state, steps)?;
-    Ok((state.holders()?, state.rows()))
+    Ok(state)
+}
+
+// Whether these are the holders after so many steps, and there are so many rows.
+fn holders_are(
+    alloc: Global,
+    count: usize,
+    wanted: &[Instance],
+    rows: usize,
+) -> Result<bool, Fail> {
+    let state = state_after(alloc, count)?;
+    let holders = state.holders()?;
+    Ok(holders.as_slice() == wanted && state.rows() == rows)
 }
 
 #[test]
 fn holders_come_in_order_and_once(rt: HostRuntime) -> Result<(), Fail> {
     let alloc = rt.alloc();
     let (a, b, c) = (client(b'A')?, client(b'B')?, client(b'C')?);
-    let (three, rows) = holders(alloc, 4)?;
-    assert_eq!(rt; three.as_slice(), [a, b, c].as_slice());
-    assert_eq!(rt; rows, 6);
+    let three = holders_are(alloc, 4, &[a, b, c], 6)?;
     // With its end an instance is no holder.
-    let (two, rows) = holders(alloc, 5)?;
-    assert_eq!(rt; two.as_slice(), [a, c].as_slice());
-    assert_eq!(rt; rows, 3);
+    let two = holders_are(alloc, 5, &[a, c], 3)?;
+    assert_eq!(rt; (three, two), (true, true));
     Ok(())
 }
 
-// Which of A, B and C have a row after the end of B, and for whom three stateids stand before it.
-fn ended(alloc: Global) -> Result<([bool; 3], [Result<Instance, OpStatus>; 3]), Fail> {
+// Which of A, B and C have a row after the end of B.
+fn have_rows(alloc: Global) -> Result<(bool, bool, bool), Fail> {
     let (a, b, c) = (client(b'A')?, client(b'B')?, client(b'C')?);
-    let mut state = no_files(alloc)?;
-    go(alloc, &mut state, HELD.as_slice().split_at(4).0)?;
-    let of = [
-        state.holder_of(stateid(1, 1)),
-        state.holder_of(stateid(9, 2)),
-        state.holder_of(stateid(1, 4)),
-    ];
+    let mut state = state_after(alloc, 4)?;
     state.end(&b);
-    Ok(([state.has(&a), state.has(&b), state.has(&c)], of))
+    Ok((state.has(&a), state.has(&b), state.has(&c)))
+}
+
+// Whether a stateid stands for that client, or for nobody, before the end of B.
+fn stands_for(alloc: Global, stateid: StateId, holder: Option<Instance>) -> Result<bool, Fail> {
+    let told = state_after(alloc, 4)?.holder_of(stateid);
+    match holder {
+        Some(holder) => Ok(told == Ok(holder)),
+        None => Ok(told == Err(OpStatus::BadStateId)),
+    }
 }
 
 #[test]
 fn a_stateid_tells_its_holder(rt: HostRuntime) -> Result<(), Fail> {
+    let alloc = rt.alloc();
     let (a, b) = (client(b'A')?, client(b'B')?);
-    let (has, of) = ended(rt.alloc())?;
-    assert_eq!(rt; has, [true, false, true]);
-    assert_eq!(rt; of, [Ok(b), Ok(a), Err(OpStatus::BadStateId)]);
+    let told = (
+        stands_for(alloc, stateid(1, 1), Some(b))?,
+        stands_for(alloc, stateid(9, 2), Some(a))?,
+        stands_for(alloc, stateid(1, 4), None)?,
+    );
+    assert_eq!(rt; told, (true, true, true));
+    assert_eq!(rt; have_rows(alloc)?, (true, false, true));
     Ok(())
 }

@@ -210,7 +210,8 @@ fn plain_deed(alloc: Global, what: What<'_>) -> Deed {
     }
 }
 
-fn call(alloc: Global, letter: u8, file: u64, what: What<'_>) -> Result<Call, Fail> {
+/// A call of the first run of a client, with that current file.
+pub(crate) fn call(alloc: Global, letter: u8, file: u64, what: What<'_>) -> Result<Call, Fail> {
     Ok(Call {
         caller: Some(client(letter)?),
         file,
@@ -242,61 +243,58 @@ pub(crate) fn no_files(alloc: Global) -> Result<FsState, Fail> {
 fn reply(state: &mut FsState, event: &Event) -> Result<Reply, Fail> {
     let told = state.answer(event)?;
     let reply = state.apply(event)?;
-    Ok(
-        (told == reply)
-            .then_some(reply)
-            .ok_or("it is answered as was told")?,
-    )
+    if told != reply {
+        return Err("it is answered as was told".into());
+    }
+    Ok(reply)
+}
+
+fn answered(alloc: Global, state: &mut FsState, step: Step<'_>) -> Result<Reply, Fail> {
+    let event = event(alloc, step)?;
+    reply(state, &event)
+}
+
+fn status_of(alloc: Global, state: &mut FsState, step: Step<'_>) -> Result<OpStatus, Fail> {
+    Ok(answered(alloc, state, step)?.status)
 }
 
 /// Carries these out.
-pub(crate) fn go(
-    alloc: Global,
-    state: &mut FsState,
-    steps: &[Step<'_>],
-) -> Result<Vec<Reply>, Fail> {
-    let mut replies = Vec::new(alloc);
+pub(crate) fn go(alloc: Global, state: &mut FsState, steps: &[Step<'_>]) -> Result<(), Fail> {
     for step in steps {
-        let event = event(alloc, *step)?;
-        replies.push(reply(state, &event)?)?;
+        status_of(alloc, state, *step)?;
     }
-    Ok(replies)
+    Ok(())
 }
 
 /// A step, and the status that it is to have.
 pub(crate) type Row = (Step<'static>, OpStatus);
 
-/// The first of these, carried out one after the other, whose status isn't the wanted one.
-pub(crate) fn first_other(
-    alloc: Global,
-    state: &mut FsState,
-    rows: &[Row],
-) -> Result<Option<(usize, OpStatus)>, Fail> {
-    let mut other = None;
-    for (at, row) in rows.iter().enumerate() {
-        let event = event(alloc, row.0)?;
-        let status = reply(state, &event)?.status;
-        if other.is_none() && status != row.1 {
-            other = Some((at, status));
-        }
-    }
-    Ok(other)
-}
-
-/// The same, on a file system that has no file before.
+/// The first of these, carried out one after the other on a file system that has no file before, whose status isn't the wanted one.
 pub(crate) fn first_other_of(
     alloc: Global,
     rows: &[Row],
 ) -> Result<Option<(usize, OpStatus)>, Fail> {
     let mut state = no_files(alloc)?;
-    first_other(alloc, &mut state, rows)
+    for at in 0..rows.len() {
+        let (step, wanted) = rows[at];
+        let status = status_of(alloc, &mut state, step)?;
+        if status != wanted {
+            return Ok(Some((at, status)));
+        }
+    }
+    Ok(None)
 }
 
-/// The value of the last of these, on a file system that has no file before.
-pub(crate) fn last_value(alloc: Global, steps: &[Step<'_>]) -> Result<ReplyValue, Fail> {
+/// Whether the last of these tells that value, on a file system that has no file before.
+pub(crate) fn last_tells(
+    alloc: Global,
+    steps: &[Step<'_>],
+    value: &ReplyValue,
+) -> Result<bool, Fail> {
     let mut state = no_files(alloc)?;
-    match go(alloc, &mut state, steps)?.pop() {
-        Some(reply) => Ok(reply.value),
-        None => Ok(ReplyValue::Nothing),
+    let mut same = false;
+    for step in steps {
+        same = answered(alloc, &mut state, *step)?.value == *value;
     }
+    Ok(same)
 }
