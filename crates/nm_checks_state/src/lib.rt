@@ -8,6 +8,8 @@ mod copies;
 #[cfg(test)]
 mod owners;
 #[cfg(test)]
+mod ranges;
+#[cfg(test)]
 mod repeats;
 #[cfg(test)]
 mod shares;
