@@ -6,6 +6,8 @@
 #[cfg(test)]
 mod owners;
 #[cfg(test)]
+mod roll;
+#[cfg(test)]
 mod shares;
 #[cfg(test)]
 mod slot;
