@@ -12,6 +12,8 @@ mod ranges;
 #[cfg(test)]
 mod repeats;
 #[cfg(test)]
+mod roll;
+#[cfg(test)]
 mod shares;
 #[cfg(test)]
 mod slot;

@@ -1,3 +1,4 @@
 pub mod CaseLemmas
 pub mod RowLemmas
 pub mod LoopLemmas
+pub mod LeaseLaws

@@ -10,6 +10,7 @@ mod answers;
 mod cases;
 mod clients;
 mod giving;
+mod laws;
 mod leases;
 mod moves;
 mod records;
@@ -21,5 +22,6 @@ mod told;
 pub use answers::{
     CallbackPath, ConfirmAnswer, EndCause, Ended, LeasePass, Reserve, SetAnswer, Touch,
 };
+pub use laws::reserved_leases_stand;
 pub use records::{ClientString, Confirmed, Reservation, StringRow, Unconfirmed};
 pub use roll::Roll;
