@@ -8,7 +8,7 @@ use Rattle.nm_rules.specs.Checks.{Checks, nothing_stops, refuse_if, lease_stop, 
 use Rattle.nm_rules.specs.Contents.{size_limit, transfer_limit, part, taken}
 use Rattle.nm_rules.specs.Files.{current, changes_past_end, size_of, fills_up, sized_limit}
 use Rattle.nm_rules.specs.Opens.{is_denied}
-use Rattle.nm_rules.specs.Stateids.{open_named, resolved, unresolved_at, live_stop}
+use Rattle.nm_rules.specs.Stateids.{open_named, lock_named, resolved, any_unresolved, any_stop}
 use Rattle.nm_rules.specs.Parties.{Party}
 use Rattle.nm_rules.specs.Seen.{Seen}
 use Rattle.nm_rules.specs.declared.args.ReadArgs.{ReadArgs}
@@ -29,19 +29,19 @@ use Rattle.nm_rules.specs.declared.status.OpStatus.TheVariants.{IsDir, Inval, At
 unfoldable pub unresolved_stop : Seen → Option Party → StateRef → Option OpStatus
 unresolved_stop s caller Zeros = None
 unresolved_stop s caller Ones = None
-unresolved_stop s caller (Named id) = unresolved_at caller (resolved s (Named id))
+unresolved_stop s caller (Named id) = any_unresolved caller (resolved s (Named id)) (lock_named s (Named id))
 
 -- without a size the instance isn't compared
 unfoldable pub unknown_stop : Seen → StateRef → Option OpStatus
 unknown_stop s Zeros = None
 unknown_stop s Ones = None
-unknown_stop s (Named id) = refuse_if (is_none (resolved s (Named id))) BadStateId
+unknown_stop s (Named id) = refuse_if (is_none (resolved s (Named id)) && is_none (lock_named s (Named id))) BadStateId
 
--- what the open says that the stateid stands for, unless it is a special one
+-- what the open or the locks say that the stateid stands for, unless it is a special one
 unfoldable pub stale_stop : Seen → ℕ → StateRef → ℕ → Option OpStatus
 stale_stop s file Zeros access = None
 stale_stop s file Ones access = None
-stale_stop s file (Named id) access = live_stop s file (Named id) access (open_named s (Named id))
+stale_stop s file (Named id) access = any_stop s file (Named id) access (open_named s (Named id)) (lock_named s (Named id))
 
 -- The special stateids meet denies: that of all zeros those of reading and of writing, that of all ones only the latter
 -- (RFC 7530, 9.1.4.3).

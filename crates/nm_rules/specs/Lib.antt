@@ -9,6 +9,8 @@ pub mod Files
 pub mod Held
 pub mod Holders
 pub mod Lists
+pub mod LockAsks
+pub mod LockOps
 pub mod LockRows
 pub mod Locks
 pub mod Names

@@ -1,9 +1,10 @@
 -- Byte-range locks of a file system (RFC 7530, 9.1 and 16.10): the stateids of lock owners, and the ranges that they hold.
-use Rattle.std.specs.Prelude.{◌≡◌, ◌≢◌, ◌≤◌, is_none, ◌==◌, ◌&&◌, ◌||◌, not, nat_lt, nat_le, ℕ, ◌+◌, Bool, true, false, List, [], ◌∷◌, Option, Some, None, find, filter, map, if◌then◌else◌}
+use Rattle.std.specs.Prelude.{◌≡◌, ◌≢◌, ◌≤◌, is_none, ◌==◌, ◌&&◌, ◌||◌, not, nat_lt, nat_le, ℕ, ◌+◌, Bool, true, false, List, [], ◌∷◌, length, Option, Some, None, find, filter, map, if◌then◌else◌}
 use Rattle.std.specs.List.{list_all, list_any}
 use Rattle.nm_rules.specs.Lists.{is_empty}
 use Rattle.nm_rules.specs.Parties.{Party, same_party}
 use Rattle.nm_rules.specs.Owners.{same_owner}
+use Rattle.nm_rules.specs.Shares.{next_seqid}
 use Rattle.nm_rules.specs.Locks.{kind_at, kinds_conflict, holds, cleared, set_to, barrier, is_inside, IsJoined}
 use Rattle.nm_rules.specs.declared.calls.Owner.{Owner}
 use Rattle.nm_rules.specs.declared.results.LockKind.{LockKind}
@@ -48,6 +49,31 @@ held_by (Some row) byte ranges = kind_at row.counter byte ranges
 unfoldable pub lock_in : Owner → ℕ → ℕ → List LockRow → List FileLocks → Option LockKind
 lock_in owner file byte locks ranges = held_by (lock_of owner file locks) byte (ranges_on file ranges)
 
+-- how many ranges are held
+unfoldable pub ranges_taken : List FileLocks → ℕ
+ranges_taken [] = 0
+ranges_taken (x ∷ xs) = length x.ranges + ranges_taken xs
+
+-- a stateid that holds nothing
+abbrev pub is_idle : List FileLocks → LockRow → Bool
+is_idle ranges row = not (holds row.counter (ranges_on row.file ranges))
+
+-- No stateid of the open with that counter holds anything.
+unfoldable pub are_idle_with : ℕ → List LockRow → List FileLocks → Bool
+are_idle_with counter locks ranges = list_all (λ row. not (row.opened == counter) || is_idle ranges row) locks
+
+-- No stateid of the owner does.
+unfoldable pub are_idle_of : Owner → List LockRow → List FileLocks → Bool
+are_idle_of owner locks ranges = list_all (λ row. not (same_owner owner row.owner) || is_idle ranges row) locks
+
+-- a stateid of an owner that is new on a file
+abbrev pub new_lock : ℕ → Owner → ℕ → ℕ → LockRow
+new_lock counter owner opened file = record { counter = counter; seqid = 1; owner = owner; opened = opened; file = file }
+
+-- A lock and an unlock raise the seqid of their stateid by one.
+abbrev pub renewed_lock : LockRow → LockRow
+renewed_lock row = record row { seqid = next_seqid row.seqid }
+
 -- ---- how the two tables change
 
 pub data LockWord : Type 0 where
@@ -62,6 +88,15 @@ pub data LockWord : Type 0 where
   Released : Owner → LockWord
   -- the stateids of an instance go, with all that they hold
   EndedOf : Party → LockWord
+
+-- a range is taken or given up by a stateid that is there
+abbrev pub claim_if : Option LockRow → LockKind → ℕ → ℕ → LockWord
+claim_if None kind first last = AsIs
+claim_if (Some row) kind first last = Claimed row kind first last
+
+abbrev pub clear_if : Option LockRow → ℕ → ℕ → LockWord
+clear_if None first last = AsIs
+clear_if (Some row) first last = Cleared row first last
 
 abbrev pub put_lock : LockRow → List LockRow → List LockRow
 put_lock row [] = row ∷ []
@@ -169,17 +204,13 @@ abbrev pub may_put : ℕ → List LockRow → LockRow → Bool
 may_put last locks row =
     if row.counter == last + 1 then is_none (lock_of row.owner row.file locks) else is_known row (lock_at row.counter locks)
 
--- a stateid that holds nothing
-abbrev pub is_idle : List FileLocks → LockRow → Bool
-is_idle ranges row = not (holds row.counter (ranges_on row.file ranges))
-
 abbrev pub MayFollow : LockWord → ℕ → List LockRow → List FileLocks → Type 0
 MayFollow AsIs last locks ranges = Unit {0}
 MayFollow (Claimed row kind from to) last locks ranges =
     (may_put last locks row ≡ true) × (from ≤ to) × (barrier row.counter kind from to (ranges_on row.file ranges) ≡ None)
 MayFollow (Cleared row from to) last locks ranges = (is_known row (lock_at row.counter locks) ≡ true) × (from ≤ to)
-MayFollow (ClosedWith counter) last locks ranges = list_all (λ row. not (row.opened == counter) || is_idle ranges row) locks ≡ true
-MayFollow (Released owner) last locks ranges = list_all (λ row. not (same_owner owner row.owner) || is_idle ranges row) locks ≡ true
+MayFollow (ClosedWith counter) last locks ranges = are_idle_with counter locks ranges ≡ true
+MayFollow (Released owner) last locks ranges = are_idle_of owner locks ranges ≡ true
 MayFollow (EndedOf party) last locks ranges = Unit {0}
 
 -- the counter of the last stateid after a word

@@ -6,6 +6,7 @@ use Rattle.nm_rules.specs.Parties.{Party}
 use Rattle.nm_rules.specs.Owners.{same_owner}
 use Rattle.nm_rules.specs.Attributes.{Asks, asked_size, asked_mode, is_invalid, is_unsupported, set_words}
 use Rattle.nm_rules.specs.Contents.{file_at, child_at}
+use Rattle.nm_rules.specs.LockRows.{are_idle_with, ranges_taken}
 use Rattle.nm_rules.specs.Seqids.{is_confirmed, owner_at}
 use Rattle.nm_rules.specs.Shares.{meets, next_seqid, open_of, opened_row, is_opposed}
 use Rattle.nm_rules.specs.Past.{claimed_name, opener, opentype_asks, cuts}
@@ -32,7 +33,7 @@ use Rattle.nm_rules.specs.declared.results.Opened.{Opened}
 use Rattle.nm_rules.specs.declared.rows.FileRow.{FileRow}
 use Rattle.nm_rules.specs.declared.rows.OpenRow.{OpenRow}
 use Rattle.nm_rules.specs.declared.status.OpStatus.{OpStatus}
-use Rattle.nm_rules.specs.declared.status.OpStatus.TheVariants.{NotDir, IsDir, Inval, AttrNotSupp, NoGrace, NotSupp, NoEnt, Exist, ShareDenied, Resource, BadStateId, StaleClientId}
+use Rattle.nm_rules.specs.declared.status.OpStatus.TheVariants.{NotDir, IsDir, Inval, AttrNotSupp, NoGrace, NotSupp, NoEnt, Exist, ShareDenied, LocksHeld, Resource, BadStateId, StaleClientId}
 
 -- some open of the file denies that access
 unfoldable pub is_denied : ℕ → ℕ → List OpenRow → Bool
@@ -109,13 +110,14 @@ name_refusal (Guarded _) (Some _) row = Some Exist
 name_refusal (Exclusive _) None row = None
 name_refusal (Exclusive verifier) (Some _) row = if is_made_by verifier row then None else Some Exist
 
--- ---- rows: owners, opens, and closed opens whose CLOSE is their owner's kept call count together
+-- ---- rows: owners, opens, closed opens whose CLOSE is their owner's kept call, stateids of lock owners, and ranges that they
+-- hold count together
 
 abbrev pub rows_limit : ℕ
 rows_limit = 65536
 
 abbrev pub rows_taken : Seen → ℕ
-rows_taken s = length s.owners + length s.opens + length s.closed
+rows_taken s = length s.owners + length s.opens + length s.closed + (length s.locks + ranges_taken s.ranges)
 
 abbrev pub one_if : Bool → ℕ
 one_if test = if test then 1 else 0
@@ -124,7 +126,7 @@ one_if test = if test then 1 else 0
 abbrev pub rows_with_open : Seen → Owner → ℕ → ℕ
 rows_with_open s owner file = length s.owners + one_if (is_none (owner_at owner s.owners))
     + (length s.opens + one_if (is_none (open_of owner file s.opens)))
-    + length (filter (λ x. not (same_owner owner x.owner)) s.closed)
+    + length (filter (λ x. not (same_owner owner x.owner)) s.closed) + (length s.locks + ranges_taken s.ranges)
 
 -- No stateid is made past the last counter, 2^63.
 abbrev pub draws_past_end : Seen → Party → ℕ → OpenArgs → Bool
@@ -204,6 +206,11 @@ open_value s (Some party) file args = Some (record {
 
 -- ---- CLOSE
 
+-- An open whose lock owners hold something isn't closed (RFC 7530, 16.2).
+abbrev pub locks_stop : Seen → Option OpenRow → Option OpStatus
+locks_stop s None = None
+locks_stop s (Some row) = refuse_if (not (are_idle_with row.counter s.locks s.ranges)) LocksHeld
+
 unfoldable pub close_checks : Seen → Option Party → ℕ → CloseArgs → Verdict → Checks
 close_checks s caller file args verdict = record nothing_stops {
   unresolved = unresolved_at caller (resolved s args.stateid);
@@ -212,6 +219,7 @@ close_checks s caller file args verdict = record nothing_stops {
   missing = missing_stop (current s file);
   kind = refuse_if (is_dir (current s file)) IsDir;
   stale = live_stop s file args.stateid 0 (open_named s args.stateid);
+  conflict = locks_stop s (open_named s args.stateid);
 }
 
 -- the stateid as it is changed: its seqid goes on by one

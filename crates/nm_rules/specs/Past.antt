@@ -7,20 +7,27 @@ use Rattle.nm_rules.specs.Attributes.{Asks, asks_of, asked_size, asked_mode}
 use Rattle.nm_rules.specs.Contents.{TreeWord, file_at, root_row, file_left, child_left, last_file_left, change_left, taken}
 use Rattle.nm_rules.specs.Contents.TreeWord.{Untouched, Made, Edited, Removed}
 use Rattle.nm_rules.specs.Contents.FileEdit.{Wrote, Set}
+use Rattle.nm_rules.specs.LockAsks.{kind_of, last_of, lock_owner, counter_of}
+use Rattle.nm_rules.specs.LockRows.{LockWord, lock_at, new_lock, renewed_lock, claim_if, clear_if, locks_after, ranges_after}
+use Rattle.nm_rules.specs.LockRows.LockWord.{AsIs, Claimed, ClosedWith, Released, EndedOf}
 use Rattle.nm_rules.specs.Parties.{Party}
 use Rattle.nm_rules.specs.Seqids.{OwnerWord, advances, seqid_of, judged, is_fresh, is_confirmed, without_recalls, owner_left, closed_after}
-use Rattle.nm_rules.specs.Seqids.OwnerWord.{Stays, Noted, GoneOf}
+use Rattle.nm_rules.specs.Seqids.OwnerWord.{Stays, Noted, Gone, GoneOf}
 use Rattle.nm_rules.specs.Shares.{OpenWord, open_at, open_left, opened_row, renewed_row, narrowed_row, put_if}
 use Rattle.nm_rules.specs.Shares.OpenWord.{Keep, Put, Drop, DropOf}
 use Rattle.nm_rules.specs.declared.args.Claim.{Claim}
 use Rattle.nm_rules.specs.declared.args.Claim.TheVariants.{Null, Previous, DelegateCur, DelegatePrev}
 use Rattle.nm_rules.specs.declared.args.CreateArgs.{CreateArgs}
+use Rattle.nm_rules.specs.declared.args.LockArgs.{LockArgs}
+use Rattle.nm_rules.specs.declared.args.Locker.{Locker}
+use Rattle.nm_rules.specs.declared.args.Locker.TheVariants.{New, Known}
 use Rattle.nm_rules.specs.declared.args.OpenArgs.{OpenArgs}
 use Rattle.nm_rules.specs.declared.args.OpenDowngradeArgs.{OpenDowngradeArgs}
 use Rattle.nm_rules.specs.declared.args.OpenType.{OpenType}
 use Rattle.nm_rules.specs.declared.args.OpenType.TheVariants.{NoCreate, Unchecked, Guarded, Exclusive}
 use Rattle.nm_rules.specs.declared.args.RemoveArgs.{RemoveArgs}
 use Rattle.nm_rules.specs.declared.args.SetAttrArgs.{SetAttrArgs}
+use Rattle.nm_rules.specs.declared.args.UnlockArgs.{UnlockArgs}
 use Rattle.nm_rules.specs.declared.args.WriteArgs.{WriteArgs}
 use Rattle.nm_rules.specs.declared.calls.Call.{Call}
 use Rattle.nm_rules.specs.declared.calls.Deed.{Deed}
@@ -38,9 +45,12 @@ use Rattle.nm_rules.specs.declared.calls.StateRef.TheVariants.{Zeros, Ones, Name
 use Rattle.nm_rules.specs.declared.owners.Judgement.{Judgement}
 use Rattle.nm_rules.specs.declared.owners.Judgement.TheVariants.{Fresh}
 use Rattle.nm_rules.specs.declared.owners.OwnerRow.{OwnerRow}
+use Rattle.nm_rules.specs.declared.results.LockOutcome.TheVariants.{Locked}
 use Rattle.nm_rules.specs.declared.results.Opened.{Opened}
 use Rattle.nm_rules.specs.declared.rows.FileKind.TheVariants.{File, Directory}
+use Rattle.nm_rules.specs.declared.rows.FileLocks.{FileLocks}
 use Rattle.nm_rules.specs.declared.rows.FileRow.{FileRow}
+use Rattle.nm_rules.specs.declared.rows.LockRow.{LockRow}
 use Rattle.nm_rules.specs.declared.rows.OpenRow.{OpenRow}
 use Rattle.nm_rules.specs.declared.status.OpStatus.{OpStatus}
 use Rattle.nm_rules.specs.declared.status.OpStatus.TheVariants.{Nfs4Ok}
@@ -51,13 +61,16 @@ abbrev pub Past : Type 0
 Past = List Entry
 
 -- What stands now, by keys: a file by its number, a number by a name in a directory, a live open by the counter of its
--- stateid, what is kept of an owner that is known by the owner; and the opens whose CLOSE is their owner's kept call.
+-- stateid, what is kept of an owner that is known by the owner; the opens whose CLOSE is their owner's kept call; and the stateids
+-- of lock owners with the ranges that they hold.
 pub record Now : Type 0 where
   pub file_by : ℕ → Option FileRow
   pub child_by : ℕ → List ℕ → Option ℕ
   pub open_by : ℕ → Option OpenRow
   pub owner_by : Owner → Option OwnerRow
   pub closed : List OpenRow
+  pub locks : List LockRow
+  pub ranges : List FileLocks
   -- the last stateid's counter, the last file's number and the last change's
   pub last : ℕ
   pub last_file : ℕ
@@ -76,13 +89,29 @@ named_by n (Named id) = option_or (n.open_by id.counter) (open_at id.counter n.c
 abbrev pub owner_named : Now → StateRef → Option Owner
 owner_named n stateid = option_map (λ row. row.owner) (named_by n stateid)
 
--- The owner for which an operation with a seqid is asked: that of an OPEN, and that of the open which a stateid names. The
--- other operations have none.
+-- the stateid of a lock owner
+unfoldable pub lock_named_by : Now → StateRef → Option LockRow
+lock_named_by n Zeros = None
+lock_named_by n Ones = None
+lock_named_by n (Named id) = lock_at id.counter n.locks
+
+abbrev pub lock_owner_named : Now → StateRef → Option Owner
+lock_owner_named n stateid = option_map (λ row. row.owner) (lock_named_by n stateid)
+
+-- A new lock owner's lock is asked for its open owner.
+abbrev pub locker_owner : Now → Locker → Option Owner
+locker_owner n (New open_seqid stateid lock_seqid text) = owner_named n stateid
+locker_owner n (Known stateid lock_seqid) = lock_owner_named n stateid
+
+-- The owner for which an operation with a seqid is asked: that of an OPEN, and that of the open or of the locks which a stateid
+-- names. The other operations have none.
 unfoldable pub seqid_owner : Now → Option Party → Deed → Option Owner
 seqid_owner n caller (deed.Close args) = owner_named n args.stateid
+seqid_owner n caller (deed.Lock args) = locker_owner n args.locker
 seqid_owner n caller (deed.Open args) = option_map (λ party. opener party args) caller
 seqid_owner n caller (deed.OpenConfirm args) = owner_named n args.stateid
 seqid_owner n caller (deed.OpenDowngrade args) = owner_named n args.stateid
+seqid_owner n caller (deed.Unlock args) = lock_owner_named n args.stateid
 seqid_owner n caller _ = None
 
 -- What a call's seqid says of it. A call without one is always fresh.
@@ -107,10 +136,14 @@ pub record Words : Type 0 where
   pub opens : OpenWord
   -- a stateid was made
   pub drew : Bool
+  pub locks : LockWord
+  -- the owner for which the call was asked moves on
   pub owners : OwnerWord
+  -- a lock owner starts, or is released
+  pub starts : OwnerWord
 
 abbrev pub no_words : Words
-no_words = record { tree = Untouched; opens = Keep; drew = false; owners = Stays }
+no_words = record { tree = Untouched; opens = Keep; drew = false; locks = AsIs; owners = Stays; starts = Stays }
 
 -- ---- OPEN and CLOSE
 
@@ -181,7 +214,9 @@ opened_words n party file args opened = record {
       (claimed_in n.child_by file (claimed_name args.claim)) opened.file;
   opens = Put (opened_row (n.open_by opened.ok.stateid.counter) opened.ok.stateid.counter opened.file (opener party args) args.access args.deny);
   drew = is_none (n.open_by opened.ok.stateid.counter);
+  locks = AsIs;
   owners = Stays;
+  starts = Stays;
 }
 
 abbrev pub open_words : Now → Option Party → ℕ → OpenArgs → ReplyValue → Words
@@ -189,9 +224,9 @@ open_words n (Some party) file args (told.Open (Some opened)) = opened_words n p
 open_words n (Some party) file args _ = no_words
 open_words n None file args value = no_words
 
--- A CLOSE that acted drops the open whose stateid it answers.
+-- A CLOSE that acted drops the open whose stateid it answers, and with it the stateids of its lock owners, which hold nothing.
 abbrev pub close_words : ReplyValue → Words
-close_words (told.Close (Some id)) = record no_words { opens = Drop id.counter }
+close_words (told.Close (Some id)) = record no_words { opens = Drop id.counter; locks = ClosedWith id.counter }
 close_words _ = no_words
 
 -- ---- OPEN_CONFIRM and OPEN_DOWNGRADE
@@ -206,6 +241,34 @@ abbrev pub downgrade_words : Now → OpenDowngradeArgs → ReplyValue → Words
 downgrade_words n args (told.OpenDowngrade (Some id)) =
     record no_words { opens = put_if (option_map (narrowed_row args.access args.deny) (n.open_by id.counter)) }
 downgrade_words n args _ = no_words
+
+-- ---- LOCK, LOCKU and RELEASE_LOCKOWNER
+
+-- A LOCK that acted gives the stateid that it answers its range: one that it makes, or one that was there.
+abbrev pub locked_words : Now → Option Party → ℕ → LockArgs → ℕ → Locker → Words
+locked_words n (Some party) file args counter (New open_seqid stateid lock_seqid text) = record no_words {
+  drew = true;
+  locks = Claimed (new_lock counter (lock_owner party text) (counter_of stateid) file) (kind_of args.kind) args.offset (last_of args.offset args.length);
+}
+locked_words n None file args counter (New open_seqid stateid lock_seqid text) = no_words
+locked_words n caller file args counter (Known stateid lock_seqid) = record no_words {
+  locks = claim_if (option_map renewed_lock (lock_at counter n.locks)) (kind_of args.kind) args.offset (last_of args.offset args.length);
+}
+
+abbrev pub lock_words : Now → Option Party → ℕ → LockArgs → ReplyValue → Words
+lock_words n caller file args (told.Lock (Some (Locked id))) = locked_words n caller file args id.counter args.locker
+lock_words n caller file args _ = no_words
+
+-- A LOCKU that acted takes its range from the stateid that it answers.
+abbrev pub unlock_words : Now → UnlockArgs → ReplyValue → Words
+unlock_words n args (told.Unlock (Some id)) =
+    record no_words { locks = clear_if (option_map renewed_lock (lock_at id.counter n.locks)) args.offset (last_of args.offset args.length) }
+unlock_words n args _ = no_words
+
+-- A RELEASE_LOCKOWNER that acted ends the stateids of its owner, which hold nothing.
+abbrev pub release_words : Option Party → List ℕ → Words
+release_words (Some party) text = record no_words { locks = Released (lock_owner party text) }
+release_words None text = no_words
 
 -- ---- names and data
 
@@ -259,6 +322,8 @@ deed_words n caller file (deed.Close args) value = close_words value
 deed_words n caller file (deed.Commit _) value = no_words
 deed_words n caller file (deed.Create args) value = create_words file args value
 deed_words n caller file (deed.GetAttr _) value = no_words
+deed_words n caller file (deed.Lock args) value = lock_words n caller file args value
+deed_words n caller file (deed.LockTest _) value = no_words
 deed_words n caller file (deed.Lookup _) value = no_words
 deed_words n caller file deed.LookupP value = no_words
 deed_words n caller file (deed.Open args) value = open_words n caller file args value
@@ -266,8 +331,10 @@ deed_words n caller file (deed.OpenConfirm _) value = confirm_words n value
 deed_words n caller file (deed.OpenDowngrade args) value = downgrade_words n args value
 deed_words n caller file (deed.Read _) value = no_words
 deed_words n caller file (deed.ReadDir _) value = no_words
+deed_words n caller file (deed.ReleaseLockOwner args) value = release_words caller args.owner
 deed_words n caller file (deed.Remove args) value = remove_words file args value
 deed_words n caller file (deed.SetAttr args) value = setattr_words n file args value
+deed_words n caller file (deed.Unlock args) value = unlock_words n args value
 deed_words n caller file (deed.Write args) value = write_words n file args value
 
 -- ---- what is kept of an owner
@@ -299,15 +366,34 @@ noted n call r (Some owner) = if advances r.status then Noted (noted_row (n.owne
 abbrev pub owner_word : Now → Call → Reply → OwnerWord
 owner_word n call r = if is_fresh (judgement n call) then noted n call r (seqid_owner n call.caller call.deed) else Stays
 
-abbrev pub with_owners : Words → OwnerWord → Words
-with_owners w word = record w { owners = word }
+-- A new lock owner's LOCK starts it with the seqid that it names for it.
+abbrev pub started : Now → Call → Reply → Option Party → Locker → OwnerWord
+started n call r (Some party) (New open_seqid stateid lock_seqid text) =
+    Noted (noted_row (n.owner_by (lock_owner party text)) (lock_owner party text) lock_seqid call r) None
+started n call r _ _ = Stays
+
+-- A RELEASE_LOCKOWNER ends its owner.
+abbrev pub ended : Option Party → List ℕ → OwnerWord
+ended (Some party) text = Gone (lock_owner party text)
+ended None text = Stays
+
+unfoldable pub started_by : Now → Call → Reply → Deed → OwnerWord
+started_by n call r (deed.Lock args) = started n call r call.caller args.locker
+started_by n call r (deed.ReleaseLockOwner args) = ended call.caller args.owner
+started_by n call r _ = Stays
+
+abbrev pub start_word : Now → Call → Reply → OwnerWord
+start_word n call r = if acts n call r then started_by n call r call.deed else Stays
+
+abbrev pub with_owners : Words → OwnerWord → OwnerWord → Words
+with_owners w word start = record w { owners = word; starts = start }
 
 -- Only an entry that acts changes what is there and held. A fresh one moves its owner on, and one that came before changes
 -- nothing. With its instance's end all that an owner holds goes.
 unfoldable pub words : Now → Event → Reply → Words
 words n (Asked call verdict) r =
-    with_owners (if acts n call r then deed_words n call.caller call.file call.deed r.value else no_words) (owner_word n call r)
-words n (Ended party) r = record no_words { opens = DropOf party; owners = GoneOf party }
+    with_owners (if acts n call r then deed_words n call.caller call.file call.deed r.value else no_words) (owner_word n call r) (start_word n call r)
+words n (Ended party) r = record no_words { opens = DropOf party; locks = EndedOf party; owners = GoneOf party }
 
 -- What the words leave of what stood. A change of the tree has the next number.
 unfoldable pub left : Now → Words → Now
@@ -315,8 +401,10 @@ left n w = record {
   file_by = λ k. file_left w.tree (n.change + 1) k (n.file_by k);
   child_by = λ dir name. child_left w.tree dir name (n.child_by dir name);
   open_by = λ k. open_left w.opens k (n.open_by k);
-  owner_by = λ owner. owner_left w.owners owner (n.owner_by owner);
-  closed = closed_after w.owners n.closed;
+  owner_by = λ owner. owner_left w.starts owner (owner_left w.owners owner (n.owner_by owner));
+  closed = closed_after w.starts (closed_after w.owners n.closed);
+  locks = locks_after w.locks n.locks;
+  ranges = ranges_after w.locks n.locks n.ranges;
   last = if w.drew then n.last + 1 else n.last;
   last_file = last_file_left w.tree n.last_file;
   change = change_left w.tree n.change;
@@ -330,6 +418,8 @@ nothing_yet = record {
   open_by = λ _. None;
   owner_by = λ _. None;
   closed = [];
+  locks = [];
+  ranges = [];
   last = 0;
   last_file = 15;
   change = 0;

@@ -1,12 +1,15 @@
 -- The tables of a file system, under the same words of change as what stands now.
 use Rattle.std.specs.Prelude.{ℕ, ◌+◌, Bool, List, [], ◌∷◌, if◌then◌else◌}
 use Rattle.nm_rules.specs.Contents.{TreeNow, empty_tree, file_at, child_at, tree_after}
+use Rattle.nm_rules.specs.LockRows.{locks_after, ranges_after}
 use Rattle.nm_rules.specs.Seqids.{owner_at, owners_after, closed_after}
 use Rattle.nm_rules.specs.Shares.{open_at, opens_after}
 use Rattle.nm_rules.specs.Past.{Past, Now, Words, words}
 use Rattle.nm_rules.specs.declared.calls.Event.{Event}
 use Rattle.nm_rules.specs.declared.calls.Reply.{Reply}
 use Rattle.nm_rules.specs.declared.owners.OwnerRow.{OwnerRow}
+use Rattle.nm_rules.specs.declared.rows.FileLocks.{FileLocks}
+use Rattle.nm_rules.specs.declared.rows.LockRow.{LockRow}
 use Rattle.nm_rules.specs.declared.rows.OpenRow.{OpenRow}
 
 -- A file system: its number and whether it grants delegations, which never change, and its tables.
@@ -19,12 +22,15 @@ pub record Seen : Type 0 where
   pub owners : List OwnerRow
   -- the opens whose CLOSE is their owner's kept call, as they were closed
   pub closed : List OpenRow
+  -- the stateids of lock owners, and the ranges that they hold
+  pub locks : List LockRow
+  pub ranges : List FileLocks
   -- the counter of the last stateid that was made
   pub last : ℕ
 
 -- Before the first entry there is no file but the root, nothing is held, and no owner is known.
 abbrev pub empty : ℕ → Bool → Seen
-empty fs grants = record { fs = fs; grants = grants; tree = empty_tree; opens = []; owners = []; closed = []; last = 0 }
+empty fs grants = record { fs = fs; grants = grants; tree = empty_tree; opens = []; owners = []; closed = []; locks = []; ranges = []; last = 0 }
 
 -- what stands, read off the tables
 unfoldable pub look : Seen → Now
@@ -34,6 +40,8 @@ look s = record {
   open_by = λ counter. open_at counter s.opens;
   owner_by = λ owner. owner_at owner s.owners;
   closed = s.closed;
+  locks = s.locks;
+  ranges = s.ranges;
   last = s.last;
   last_file = s.tree.last_file;
   change = s.tree.change;
@@ -43,8 +51,10 @@ unfoldable pub after_words : Seen → Words → Seen
 after_words s w = record s {
   tree = tree_after w.tree s.tree;
   opens = opens_after w.opens s.opens;
-  owners = owners_after w.owners s.owners;
-  closed = closed_after w.owners s.closed;
+  owners = owners_after w.starts (owners_after w.owners s.owners);
+  closed = closed_after w.starts (closed_after w.owners s.closed);
+  locks = locks_after w.locks s.locks;
+  ranges = ranges_after w.locks s.locks s.ranges;
   last = if w.drew then s.last + 1 else s.last;
 }
 

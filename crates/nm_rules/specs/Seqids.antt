@@ -5,6 +5,8 @@ use Rattle.nm_rules.specs.Parties.{Party, same_party}
 use Rattle.nm_rules.specs.Owners.{same_owner}
 use Rattle.nm_rules.specs.Repeats.{same_call}
 use Rattle.nm_rules.specs.Shares.{next_seqid}
+use Rattle.nm_rules.specs.declared.args.Locker.{Locker}
+use Rattle.nm_rules.specs.declared.args.Locker.TheVariants.{New, Known}
 use Rattle.nm_rules.specs.declared.calls.Deed.{Deed}
 use Rattle.nm_rules.specs.declared.calls.Deed.TheVariants as deed
 use Rattle.nm_rules.specs.declared.calls.Owner.{Owner}
@@ -28,12 +30,19 @@ advances NoFileHandle = false
 advances Moved = false
 advances _ = true
 
+-- A new lock owner's lock is judged by the seqid of its open owner.
+abbrev pub locker_seqid : Locker → ℕ
+locker_seqid (New open_seqid stateid lock_seqid owner) = open_seqid
+locker_seqid (Known stateid lock_seqid) = lock_seqid
+
 -- the seqid that an operation takes; the others take none
 unfoldable pub seqid_of : Deed → ℕ
 seqid_of (deed.Close args) = args.seqid
+seqid_of (deed.Lock args) = locker_seqid args.locker
 seqid_of (deed.Open args) = args.seqid
 seqid_of (deed.OpenConfirm args) = args.seqid
 seqid_of (deed.OpenDowngrade args) = args.seqid
+seqid_of (deed.Unlock args) = args.seqid
 seqid_of _ = 0
 
 -- What an operation's seqid says of it, by what is kept of its owner: it has to be the next one, or the last one with the same
@@ -69,6 +78,8 @@ pub data OwnerWord : Type 0 where
   Stays : OwnerWord
   -- an owner moves on: its row, and the open that the call closed
   Noted : OwnerRow → Option OpenRow → OwnerWord
+  -- an owner goes
+  Gone : Owner → OwnerWord
   -- all owners of an instance go
   GoneOf : Party → OwnerWord
 
@@ -80,12 +91,14 @@ put_owner row (x ∷ xs) = if same_owner row.owner x.owner then row ∷ xs else 
 unfoldable pub owners_after : OwnerWord → List OwnerRow → List OwnerRow
 owners_after Stays rows = rows
 owners_after (Noted row closed) rows = put_owner row rows
+owners_after (Gone owner) rows = filter (λ x. not (same_owner owner x.owner)) rows
 owners_after (GoneOf party) rows = filter (λ x. not (same_party party x.owner.instance)) rows
 
 -- what the word leaves of an owner's row
 unfoldable pub owner_left : OwnerWord → Owner → Option OwnerRow → Option OwnerRow
 owner_left Stays owner before = before
 owner_left (Noted row closed) owner before = if same_owner owner row.owner then Some row else before
+owner_left (Gone its) owner before = if same_owner owner its then None else before
 owner_left (GoneOf party) owner before = if same_party party owner.instance then None else before
 
 abbrev pub listed : Option OpenRow → List OpenRow
@@ -96,4 +109,5 @@ listed (Some row) = row ∷ []
 unfoldable pub closed_after : OwnerWord → List OpenRow → List OpenRow
 closed_after Stays rows = rows
 closed_after (Noted row closed) rows = filter (λ x. not (same_owner row.owner x.owner)) rows ++ listed closed
+closed_after (Gone owner) rows = filter (λ x. not (same_owner owner x.owner)) rows
 closed_after (GoneOf party) rows = filter (λ x. not (same_party party x.owner.instance)) rows

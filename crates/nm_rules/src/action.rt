@@ -2,7 +2,7 @@
 ghost use Rattle.std.specs.Prelude.{◌≡◌, IfOk};
 ghost use Rattle.nm_rules.specs.Actions.{verb_of, fs_of};
 
-use crate::{Bytes, FsNum, Memory};
+use crate::{Bytes, FsNum, LockKind, Memory};
 
 /// An open of a file by an owner, or what is left of it.
 #[derive(Debug, PartialEq, Eq, Drop)]
@@ -51,6 +51,86 @@ impl CloseAction {
         Ok(CloseAction {
             fs: self.fs,
             file: self.file.copy()?,
+            owner: self.owner.copy()?,
+        })
+    }
+}
+
+/// A lock of a range of bytes of a file that an owner has open, or a question for one.
+#[derive(Debug, PartialEq, Eq, Drop)]
+pub struct LockAction {
+    pub fs: FsNum,
+    /// The file's name.
+    pub file: Bytes,
+    pub kind: LockKind,
+    /// The first byte.
+    pub offset: u64,
+    /// In bytes. 2^64 - 1 reaches to the end of every file.
+    pub length: u64,
+    /// The owner's name.
+    pub owner: Bytes,
+}
+
+impl LockAction {
+    /// The same lock once more.
+    pub fn copy(&self) -> Result<LockAction, Memory>
+        ensures { IfOk result (λ a. a ≡ self.now) }
+    {
+        Ok(LockAction {
+            fs: self.fs,
+            file: self.file.copy()?,
+            kind: self.kind,
+            offset: self.offset,
+            length: self.length,
+            owner: self.owner.copy()?,
+        })
+    }
+}
+
+/// An unlock of a range of bytes of a file.
+#[derive(Debug, PartialEq, Eq, Drop)]
+pub struct UnlockAction {
+    pub fs: FsNum,
+    /// The file's name.
+    pub file: Bytes,
+    /// The first byte.
+    pub offset: u64,
+    /// In bytes. 2^64 - 1 reaches to the end of every file.
+    pub length: u64,
+    /// The owner's name.
+    pub owner: Bytes,
+}
+
+impl UnlockAction {
+    /// The same unlock once more.
+    pub fn copy(&self) -> Result<UnlockAction, Memory>
+        ensures { IfOk result (λ a. a ≡ self.now) }
+    {
+        Ok(UnlockAction {
+            fs: self.fs,
+            file: self.file.copy()?,
+            offset: self.offset,
+            length: self.length,
+            owner: self.owner.copy()?,
+        })
+    }
+}
+
+/// A release of a lock owner.
+#[derive(Debug, PartialEq, Eq, Drop)]
+pub struct ReleaseAction {
+    pub fs: FsNum,
+    /// The owner's name.
+    pub owner: Bytes,
+}
+
+impl ReleaseAction {
+    /// The same release once more.
+    pub fn copy(&self) -> Result<ReleaseAction, Memory>
+        ensures { IfOk result (λ a. a ≡ self.now) }
+    {
+        Ok(ReleaseAction {
+            fs: self.fs,
             owner: self.owner.copy()?,
         })
     }
@@ -168,6 +248,14 @@ pub enum Action {
     Close(CloseAction),
     /// Narrows what the owner has open to that access and deny.
     Downgrade(OpenAction),
+    /// Locks a range of what the owner has open.
+    Lock(LockAction),
+    /// Unlocks a range.
+    Unlock(UnlockAction),
+    /// Asks whether a range could be locked.
+    Test(LockAction),
+    /// Releases a lock owner.
+    Release(ReleaseAction),
     /// Reads what the owner has open.
     Read(ReadAction),
     /// Writes to what the owner has open.
@@ -189,6 +277,10 @@ pub enum Verb {
     Create,
     Close,
     Downgrade,
+    Lock,
+    Unlock,
+    Test,
+    Release,
     Read,
     Write,
     Size,
@@ -207,6 +299,10 @@ impl Action {
             Action::Create(_) => Verb::Create,
             Action::Close(_) => Verb::Close,
             Action::Downgrade(_) => Verb::Downgrade,
+            Action::Lock(_) => Verb::Lock,
+            Action::Unlock(_) => Verb::Unlock,
+            Action::Test(_) => Verb::Test,
+            Action::Release(_) => Verb::Release,
             Action::Read(_) => Verb::Read,
             Action::Write(_) => Verb::Write,
             Action::Size(_) => Verb::Size,
@@ -223,6 +319,9 @@ impl Action {
         match self {
             Action::Open(a) | Action::Create(a) | Action::Downgrade(a) => a.fs,
             Action::Close(a) => a.fs,
+            Action::Lock(a) | Action::Test(a) => a.fs,
+            Action::Unlock(a) => a.fs,
+            Action::Release(a) => a.fs,
             Action::Read(a) => a.fs,
             Action::Write(a) => a.fs,
             Action::Size(a) => a.fs,
@@ -240,6 +339,10 @@ impl Action {
             Action::Create(a) => Action::Create(a.copy()?),
             Action::Close(a) => Action::Close(a.copy()?),
             Action::Downgrade(a) => Action::Downgrade(a.copy()?),
+            Action::Lock(a) => Action::Lock(a.copy()?),
+            Action::Unlock(a) => Action::Unlock(a.copy()?),
+            Action::Test(a) => Action::Test(a.copy()?),
+            Action::Release(a) => Action::Release(a.copy()?),
             Action::Read(a) => Action::Read(a.copy()?),
             Action::Write(a) => Action::Write(a.copy()?),
             Action::Size(a) => Action::Size(a.copy()?),

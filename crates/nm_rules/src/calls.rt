@@ -1,13 +1,14 @@
 //! Calls that reach a file system, their replies, and the entries that they leave.
 ghost use Rattle.std.specs.Prelude.{◌≡◌, ◌↔◌, IfOk, IsTrue};
 ghost use Rattle.nm_rules.specs.Owners.{same_owner};
-ghost use Rattle.nm_rules.specs.Seqids.{seqid_of};
+ghost use Rattle.nm_rules.specs.Seqids.{locker_seqid, seqid_of};
 
 use crate::{
-    AccessArgs, AccessOk, Bytes, ChangeInfo, CloseArgs, CommitArgs, CreateArgs, Created,
-    GetAttrArgs, GetAttrOk, Instance, Items, LookupArgs, Memory, OpStatus, OpenArgs,
-    OpenConfirmArgs, OpenDowngradeArgs, Opened, ReadArgs, ReadDirArgs, ReadDirOk, ReadOk,
-    RemoveArgs, SetAttrArgs, Words, WriteArgs, WriteOk,
+    AccessArgs, AccessOk, Bytes, ChangeInfo, CloseArgs, CommitArgs, CreateArgs, Created, Denied,
+    GetAttrArgs, GetAttrOk, Instance, Items, LockArgs, LockOutcome, LockTestArgs, Locker,
+    LookupArgs, Memory, OpStatus, OpenArgs, OpenConfirmArgs, OpenDowngradeArgs, Opened, ReadArgs,
+    ReadDirArgs, ReadDirOk, ReadOk, ReleaseLockOwnerArgs, RemoveArgs, SetAttrArgs, UnlockArgs,
+    Words, WriteArgs, WriteOk,
 };
 
 /// What an owner owns (RFC 7530, 9.1.4): opens, or byte-range locks.
@@ -76,6 +77,8 @@ pub enum Deed {
     Commit(CommitArgs),
     Create(CreateArgs),
     GetAttr(GetAttrArgs),
+    Lock(LockArgs),
+    LockTest(LockTestArgs),
     Lookup(LookupArgs),
     LookupP,
     Open(OpenArgs),
@@ -83,9 +86,23 @@ pub enum Deed {
     OpenDowngrade(OpenDowngradeArgs),
     Read(ReadArgs),
     ReadDir(ReadDirArgs),
+    ReleaseLockOwner(ReleaseLockOwnerArgs),
     Remove(RemoveArgs),
     SetAttr(SetAttrArgs),
+    Unlock(UnlockArgs),
     Write(WriteArgs),
+}
+
+impl Locker {
+    /// The seqid of the owner by which it is judged: a new lock owner's lock by that of its open owner.
+    pub fn seqid(&self) -> u32
+        ensures { result ≡ locker_seqid self.now }
+    {
+        match self {
+            Locker::New { open_seqid, .. } => *open_seqid,
+            Locker::Known { lock_seqid, .. } => *lock_seqid,
+        }
+    }
 }
 
 impl Deed {
@@ -96,9 +113,11 @@ impl Deed {
     {
         match self {
             Deed::Close(args) => args.seqid,
+            Deed::Lock(args) => args.locker.seqid(),
             Deed::Open(args) => args.seqid,
             Deed::OpenConfirm(args) => args.seqid,
             Deed::OpenDowngrade(args) => args.seqid,
+            Deed::Unlock(args) => args.seqid,
             _ => 0,
         }
     }
@@ -155,6 +174,9 @@ pub enum ReplyValue {
     Commit(Option<u64>),
     Create(Option<Created>),
     GetAttr(Option<GetAttrOk>),
+    Lock(Option<LockOutcome>),
+    /// What is in the way of the lock that is asked for.
+    LockTest(Option<Denied>),
     /// The file that becomes the current one.
     Lookup(Option<u64>),
     /// The file that becomes the current one.
@@ -166,10 +188,13 @@ pub enum ReplyValue {
     OpenDowngrade(Option<StateId>),
     Read(Option<ReadOk>),
     ReadDir(Option<ReadDirOk>),
+    ReleaseLockOwner,
     /// The change numbers of the directory.
     Remove(Option<ChangeInfo>),
     /// The words of a bitmap, with every status: the attributes that were set.
     SetAttr(Words),
+    /// The stateid as the unlock left it.
+    Unlock(Option<StateId>),
     Write(Option<WriteOk>),
 }
 

@@ -2,8 +2,9 @@
 ghost use Rattle.std.specs.Prelude.{◌≡◌, IfOk};
 
 use crate::{
-    Call, Claim, CreateArgs, CreateType, Deed, Fattr, GetAttrArgs, LookupArgs, Memory, OpenArgs,
-    OpenType, ReadDirArgs, RemoveArgs, SetAttrArgs, WriteArgs,
+    Call, Claim, CreateArgs, CreateType, Deed, Fattr, GetAttrArgs, LockArgs, LockTestArgs, Locker,
+    LookupArgs, Memory, OpenArgs, OpenType, ReadDirArgs, ReleaseLockOwnerArgs, RemoveArgs,
+    SetAttrArgs, WriteArgs,
 };
 
 impl Fattr {
@@ -108,6 +109,74 @@ impl GetAttrArgs {
     }
 }
 
+impl Locker {
+    /// The same locker once more.
+    pub fn copy(&self) -> Result<Locker, Memory>
+        ensures { IfOk result (λ locker. locker ≡ self.now) }
+    {
+        match self {
+            Locker::New {
+                open_seqid,
+                stateid,
+                lock_seqid,
+                owner,
+            } => Ok(Locker::New {
+                open_seqid: *open_seqid,
+                stateid: *stateid,
+                lock_seqid: *lock_seqid,
+                owner: owner.copy()?,
+            }),
+            Locker::Known {
+                stateid,
+                lock_seqid,
+            } => Ok(Locker::Known {
+                stateid: *stateid,
+                lock_seqid: *lock_seqid,
+            }),
+        }
+    }
+}
+
+impl LockArgs {
+    /// The same arguments once more.
+    pub fn copy(&self) -> Result<LockArgs, Memory>
+        ensures { IfOk result (λ args. args ≡ self.now) }
+    {
+        Ok(LockArgs {
+            kind: self.kind,
+            reclaim: self.reclaim,
+            offset: self.offset,
+            length: self.length,
+            locker: self.locker.copy()?,
+        })
+    }
+}
+
+impl LockTestArgs {
+    /// The same arguments once more.
+    pub fn copy(&self) -> Result<LockTestArgs, Memory>
+        ensures { IfOk result (λ args. args ≡ self.now) }
+    {
+        Ok(LockTestArgs {
+            kind: self.kind,
+            offset: self.offset,
+            length: self.length,
+            owner: self.owner.copy()?,
+        })
+    }
+}
+
+impl ReleaseLockOwnerArgs {
+    /// The same arguments once more.
+    pub fn copy(&self) -> Result<ReleaseLockOwnerArgs, Memory>
+        ensures { IfOk result (λ args. args ≡ self.now) }
+    {
+        Ok(ReleaseLockOwnerArgs {
+            owner: self.owner.copy()?,
+        })
+    }
+}
+
 impl LookupArgs {
     /// The same arguments once more.
     pub fn copy(&self) -> Result<LookupArgs, Memory>
@@ -182,6 +251,8 @@ impl Deed {
             Deed::Commit(args) => Deed::Commit(*args),
             Deed::Create(args) => Deed::Create(args.copy()?),
             Deed::GetAttr(args) => Deed::GetAttr(args.copy()?),
+            Deed::Lock(args) => Deed::Lock(args.copy()?),
+            Deed::LockTest(args) => Deed::LockTest(args.copy()?),
             Deed::Lookup(args) => Deed::Lookup(args.copy()?),
             Deed::LookupP => Deed::LookupP,
             Deed::Open(args) => Deed::Open(args.copy()?),
@@ -189,8 +260,10 @@ impl Deed {
             Deed::OpenDowngrade(args) => Deed::OpenDowngrade(*args),
             Deed::Read(args) => Deed::Read(*args),
             Deed::ReadDir(args) => Deed::ReadDir(args.copy()?),
+            Deed::ReleaseLockOwner(args) => Deed::ReleaseLockOwner(args.copy()?),
             Deed::Remove(args) => Deed::Remove(args.copy()?),
             Deed::SetAttr(args) => Deed::SetAttr(args.copy()?),
+            Deed::Unlock(args) => Deed::Unlock(*args),
             Deed::Write(args) => Deed::Write(args.copy()?),
         })
     }

@@ -1,9 +1,11 @@
 //! Whether a call is the one that came before (RFC 7530, 9.1.7): caller, file and arguments are equal. Only operations
 //! with a seqid are compared.
 ghost use Rattle.std.specs.Prelude.{◌≡◌};
-ghost use Rattle.nm_rules.specs.Repeats.{is_close, is_confirm, is_downgrade, is_open, same_opentype, same_claim, same_deed, same_call};
+ghost use Rattle.nm_rules.specs.Repeats.{is_close, is_confirm, is_downgrade, is_lock, is_open, is_unlock, same_opentype, same_claim, same_deed, same_call};
 
-use crate::{Call, Claim, CloseArgs, Deed, OpenArgs, OpenConfirmArgs, OpenDowngradeArgs, OpenType};
+use crate::{
+    Call, Claim, CloseArgs, Deed, LockArgs, OpenArgs, OpenConfirmArgs, OpenDowngradeArgs, OpenType, UnlockArgs,
+};
 
 #[tactic(auto, unfolding(crate::specs::Repeats::is_close))]
 fn is_close(args: &CloseArgs, deed: &Deed) -> bool
@@ -64,6 +66,26 @@ fn is_downgrade(args: &OpenDowngradeArgs, deed: &Deed) -> bool
     }
 }
 
+#[tactic(auto, unfolding(crate::specs::Repeats::is_lock))]
+fn is_lock(args: &LockArgs, deed: &Deed) -> bool
+    ensures { result ≡ is_lock args.now deed.now }
+{
+    match deed {
+        Deed::Lock(kept) => args == kept,
+        _ => false,
+    }
+}
+
+#[tactic(auto, unfolding(crate::specs::Repeats::is_unlock))]
+fn is_unlock(args: &UnlockArgs, deed: &Deed) -> bool
+    ensures { result ≡ is_unlock args.now deed.now }
+{
+    match deed {
+        Deed::Unlock(kept) => args == kept,
+        _ => false,
+    }
+}
+
 impl Deed {
     // Whether it is that operation, which was kept, with equal arguments.
     #[tactic(auto, unfolding(crate::specs::Repeats::same_deed))]
@@ -72,9 +94,11 @@ impl Deed {
     {
         match self {
             Deed::Close(args) => is_close(args, kept),
+            Deed::Lock(args) => is_lock(args, kept),
             Deed::Open(args) => is_open(args, kept),
             Deed::OpenConfirm(args) => is_confirm(args, kept),
             Deed::OpenDowngrade(args) => is_downgrade(args, kept),
+            Deed::Unlock(args) => is_unlock(args, kept),
             _ => false,
         }
     }

@@ -2,8 +2,8 @@
 ghost use Rattle.std.specs.Prelude.{◌≡◌, IfOk};
 
 use crate::{
-    CreateOk, Created, DirEntry, GetAttrOk, Items, Memory, OpenOk, Opened, ReadDirOk, ReadOk,
-    Reply, ReplyValue,
+    CreateOk, Created, Denied, DirEntry, GetAttrOk, Items, LockOutcome, Memory, OpenOk, Opened,
+    ReadDirOk, ReadOk, Reply, ReplyValue,
 };
 
 impl Created {
@@ -47,6 +47,31 @@ impl Opened {
                 delegation: self.ok.delegation,
             },
             file: self.file,
+        })
+    }
+}
+
+impl Denied {
+    /// The same value once more.
+    pub fn copy(&self) -> Result<Denied, Memory>
+        ensures { IfOk result (λ denied. denied ≡ self.now) }
+    {
+        Ok(Denied {
+            range: self.range,
+            owner: self.owner.copy()?,
+            instance: self.instance,
+        })
+    }
+}
+
+impl LockOutcome {
+    /// The same value once more.
+    pub fn copy(&self) -> Result<LockOutcome, Memory>
+        ensures { IfOk result (λ outcome. outcome ≡ self.now) }
+    {
+        Ok(match self {
+            LockOutcome::Locked(stateid) => LockOutcome::Locked(*stateid),
+            LockOutcome::Denied(denied) => LockOutcome::Denied(denied.copy()?),
         })
     }
 }
@@ -116,6 +141,10 @@ impl ReplyValue {
             ReplyValue::Create(Some(value)) => ReplyValue::Create(Some(value.copy()?)),
             ReplyValue::GetAttr(None) => ReplyValue::GetAttr(None),
             ReplyValue::GetAttr(Some(value)) => ReplyValue::GetAttr(Some(value.copy()?)),
+            ReplyValue::Lock(None) => ReplyValue::Lock(None),
+            ReplyValue::Lock(Some(value)) => ReplyValue::Lock(Some(value.copy()?)),
+            ReplyValue::LockTest(None) => ReplyValue::LockTest(None),
+            ReplyValue::LockTest(Some(value)) => ReplyValue::LockTest(Some(value.copy()?)),
             ReplyValue::Lookup(value) => ReplyValue::Lookup(*value),
             ReplyValue::LookupP(value) => ReplyValue::LookupP(*value),
             ReplyValue::Open(None) => ReplyValue::Open(None),
@@ -126,8 +155,10 @@ impl ReplyValue {
             ReplyValue::Read(Some(value)) => ReplyValue::Read(Some(value.copy()?)),
             ReplyValue::ReadDir(None) => ReplyValue::ReadDir(None),
             ReplyValue::ReadDir(Some(value)) => ReplyValue::ReadDir(Some(value.copy()?)),
+            ReplyValue::ReleaseLockOwner => ReplyValue::ReleaseLockOwner,
             ReplyValue::Remove(value) => ReplyValue::Remove(*value),
             ReplyValue::SetAttr(words) => ReplyValue::SetAttr(words.copy()?),
+            ReplyValue::Unlock(value) => ReplyValue::Unlock(*value),
             ReplyValue::Write(value) => ReplyValue::Write(*value),
         })
     }

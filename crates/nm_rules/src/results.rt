@@ -1,5 +1,5 @@
 //! Values of results that a file system's replies share (RFC 7530, 16; RFC 7531).
-use crate::{Bytes, Items, StateId};
+use crate::{Bytes, Instance, Items, StateId};
 
 /// What an OK of ACCESS tells (RFC 7531, ACCESS4resok): rights, by their bits.
 #[derive(Clone, Copy, Debug, PartialEq, Eq)]
@@ -127,4 +127,33 @@ pub struct WriteOk {
 pub enum LockKind {
     Read,
     Write,
+}
+
+/// A range of bytes that a byte-range lock holds (RFC 7530, 9.2).
+#[derive(Clone, Copy, Debug, PartialEq, Eq)]
+pub struct LockRange {
+    pub kind: LockKind,
+    /// Its first byte.
+    pub first: u64,
+    /// Its last byte, which isn't before the first. 2^64 - 1 reaches to the end of every file.
+    pub last: u64,
+}
+
+/// What is in the way of a lock (RFC 7531, LOCK4denied).
+#[derive(Debug, PartialEq, Eq, Drop)]
+pub struct Denied {
+    pub range: LockRange,
+    /// The text of the owner that holds it.
+    pub owner: Bytes,
+    /// The instance of that owner. A client isn't told it.
+    pub instance: Option<Instance>,
+}
+
+/// What LOCK tells (RFC 7531, LOCK4res).
+#[derive(Debug, PartialEq, Eq, Drop)]
+pub enum LockOutcome {
+    /// The lock stands: the stateid of the lock owner, as the lock left it.
+    Locked(StateId),
+    /// Another owner's lock is in the way.
+    Denied(Denied),
 }

@@ -1,11 +1,16 @@
 //! What is held in a file system, as it is shown.
-use crate::{Bytes, Instance, Items};
+use crate::{Bytes, Instance, Items, LockRange};
+
+/// Ranges that an owner holds of one file, by rising first byte. Those of one kind that touch are one.
+pub type RangeList = Items<LockRange>;
 
 /// What a stateid stands for.
-#[derive(Clone, Copy, Debug, PartialEq, Eq)]
+#[derive(Debug, PartialEq, Eq, Drop)]
 pub enum HeldKind {
     /// An open, with its access (1 to 3) and its deny (0 to 3).
     Open { access: u32, deny: u32 },
+    /// The byte-range locks of an owner on the file. It may hold none.
+    Lock { ranges: RangeList },
 }
 
 /// One stateid, and what it stands for.
