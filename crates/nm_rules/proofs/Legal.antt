@@ -11,24 +11,33 @@ use Rattle.nm_rules.specs.Attributes.{Asks, asks_of, asked_size, asked_mode, has
 use Rattle.nm_rules.specs.Contents.{TreeNow, TreeWord, FileEdit, root_row, taken, file_at, child_at, is_named, stamped, edited_at, tree_after}
 use Rattle.nm_rules.specs.Contents.TreeWord.{Untouched, Made, Edited, Removed}
 use Rattle.nm_rules.specs.Contents.FileEdit.{Wrote, Set}
-use Rattle.nm_rules.specs.Seqids.{OwnerWord, owner_at, judged, is_fresh, seqid_of}
+use Rattle.nm_rules.specs.Seqids.{OwnerWord, owner_at, judged, is_fresh, locker_seqid, seqid_of}
+use Rattle.nm_rules.specs.Seqids.OwnerWord.{Stays}
 use Rattle.nm_rules.specs.Shares.{open_at, open_of, opened_row, is_opposed, put_open, renewed_row, narrowed_row, opens_after, OpenWord}
 use Rattle.nm_rules.specs.Shares.OpenWord.{Put, Drop, DropOf}
-use Rattle.nm_rules.specs.Past.{Past, Now, Words, now, left, acts, words, no_words, is_done, deed_words, judgement, judgement_for, named_by, seqid_owner, noted, owner_word, with_owners, nothing_yet, open_words, close_words, confirm_words, downgrade_words, opener, open_tree, claimed_in, claimed_name, cuts, parent_of, set_tree, write_tree}
+use Rattle.nm_rules.specs.Past.{Past, Now, Words, now, left, acts, words, no_words, is_done, deed_words, judgement, judgement_for, named_by, lock_named_by, locker_owner, seqid_owner, noted, owner_word, start_word, started_by, with_owners, nothing_yet, open_words, close_words, lock_words, unlock_words, confirm_words, downgrade_words, opener, open_tree, claimed_in, claimed_name, cuts, parent_of, set_tree, write_tree}
 use Rattle.nm_rules.specs.Seen.{Seen, empty, seen, look, after, after_words}
-use Rattle.nm_rules.specs.Checks.{Stop, first, arguments_fault}
+use Rattle.nm_rules.specs.Checks.{Stop, first, refusal, arguments_fault}
 use Rattle.nm_rules.specs.Checks.Stop.{Refuse, Repeat}
 use Rattle.nm_rules.specs.Data.{read_checks, write_checks, write_value, setattr_checks, size_checks, mode_checks, commit_checks}
 use Rattle.nm_rules.specs.Files.{file_checks, dir_checks, lookup_checks, create_checks, create_value, remove_checks, readdir_checks}
 use Rattle.nm_rules.specs.Opens.{open_checks, GoesOpen, open_value, close_checks, confirm_checks, downgrade_checks, changed_stateid, next_stateid, is_narrower, row_to_open, file_to_open, target, target_at, claim_arguments, open_fault, claim_fault, is_share, open_limit, tree_limit}
-use Rattle.nm_rules.specs.Stateids.{open_named, resolved, unresolved_at, owner_stop, owner_stop_at, judged_stop}
-use Rattle.nm_rules.specs.Answer.{answer_to, reply_by, reply_with, refused_value, ok_value, checks, IsLegal}
+use Rattle.nm_rules.specs.LockOps.{lock_value, locked_stateid, changed_lock, next_lock_stateid, lock_checks, test_checks, unlock_checks, release_checks, new_checks, known_checks, newcomer_stop, lock_denied, test_denied}
+use Rattle.nm_rules.specs.LockRows.{LockWord, lock_at}
+use Rattle.nm_rules.specs.LockRows.LockWord.{ClosedWith, EndedOf}
+use Rattle.nm_rules.specs.Stateids.{open_named, lock_named, resolved, unresolved_at, lock_unresolved, owner_stop, owner_stop_at, lock_owner_stop_at, judged_stop}
+use Rattle.nm_rules.specs.Answer.{answer_to, reply_by, reply_with, refused_value, refusal_value, denied_value, is_denial, ok_value, checks, IsLegal}
 use Rattle.nm_rules.specs.Sound.{IsSound, rises, all_apart, files_rise}
 use Rattle.nm_rules.specs.declared.args.CreateArgs.{CreateArgs}
 use Rattle.nm_rules.specs.declared.args.OpenArgs.{OpenArgs}
 use Rattle.nm_rules.specs.declared.args.OpenType.{OpenType}
 use Rattle.nm_rules.specs.declared.args.OpenDowngradeArgs.{OpenDowngradeArgs}
+use Rattle.nm_rules.specs.declared.args.LockArgs.{LockArgs}
+use Rattle.nm_rules.specs.declared.args.Locker.{Locker}
+use Rattle.nm_rules.specs.declared.args.Locker.TheVariants.{New, Known}
+use Rattle.nm_rules.specs.declared.args.LockTestArgs.{LockTestArgs}
 use Rattle.nm_rules.specs.declared.args.SetAttrArgs.{SetAttrArgs}
+use Rattle.nm_rules.specs.declared.args.UnlockArgs.{UnlockArgs}
 use Rattle.nm_rules.specs.declared.args.WriteArgs.{WriteArgs}
 use Rattle.nm_rules.specs.declared.calls.Call.{Call}
 use Rattle.nm_rules.specs.declared.calls.Deed.{Deed}
@@ -43,15 +52,19 @@ use Rattle.nm_rules.specs.declared.calls.StateRef.TheVariants.{Zeros, Ones, Name
 use Rattle.nm_rules.specs.declared.owners.Judgement.{Judgement}
 use Rattle.nm_rules.specs.declared.owners.Judgement.TheVariants as judged_as
 use Rattle.nm_rules.specs.declared.owners.OwnerRow.{OwnerRow}
+use Rattle.nm_rules.specs.declared.calls.ReplyValue.{ReplyValue}
 use Rattle.nm_rules.specs.declared.calls.ReplyValue.TheVariants as told
+use Rattle.nm_rules.specs.declared.results.LockOutcome.TheVariants.{Locked, Denied as IsDenied}
 use Rattle.nm_rules.specs.declared.rows.FileRow.{FileRow}
+use Rattle.nm_rules.specs.declared.results.Denied.{Denied}
+use Rattle.nm_rules.specs.declared.rows.LockRow.{LockRow}
 use Rattle.nm_rules.specs.declared.rows.OpenRow.{OpenRow}
 use Rattle.nm_rules.specs.declared.status.OpStatus.{OpStatus}
 use Rattle.nm_rules.specs.declared.status.OpStatus.TheVariants.{Exist, ShareDenied, Resource, Inval}
 use Rattle.nm_rules.proofs.Classes.{or_none, refuse_if-none, IsFree, all_free, first_repeats}
 use Rattle.nm_rules.proofs.FileRows.{stamped_keeps, edited_keeps, files_rise-map, files_rise-filter, files_rise-push}
 use Rattle.nm_rules.proofs.NameRows.{NamesNew, names-after}
-use Rattle.nm_rules.proofs.OpenRows.{and_parts, open_at-past, open_at-in, in-open_at, rises-filter, rises-put_new, rises-put_old}
+use Rattle.nm_rules.proofs.OpenRows.{and_parts, open_at-past, open_at-in, in-open_at, rises-filter, rises-higher, rises-put_new, rises-put_old}
 use Rattle.nm_rules.proofs.Apart.{all_apart-filter, all_apart-put, opened_suits, renewed_suits, narrowed_suits, open_of-in, Suits}
 use Rattle.nm_rules.proofs.Looks.{look-after_words}
 
@@ -185,6 +198,55 @@ row_tells s caller file d seqid stateid None found own = cc
 row_tells s caller file d seqid stateid (Some row) found own =
     rw (named_resolved s stateid row found) (stop_tells false (owner_at row.owner s.owners) seqid caller file d)
 
+-- a lock owner's stateid is named by its counter
+named_lock : (s : Seen) (stateid : StateRef) (row : LockRow) → lock_named s stateid ≡ Some row → lock_named_by (look s) stateid ≡ Some row
+unfolding lock_named lock_named_by look
+named_lock s Zeros row found = cc
+named_lock s Ones row found = cc
+named_lock s (Named id) row found = by_fs (id.fs == s.fs) found
+  where
+    by_fs : (b : Bool) → cond b (lock_at id.counter s.locks) None ≡ Some row → lock_at id.counter s.locks ≡ Some row
+    by_fs true here = here
+    by_fs false elsewhere = cc
+
+-- the judgement of an operation on the locks of an owner
+abbrev at_lock : Seen → Option Party → ℕ → Deed → ℕ → Option LockRow → Judgement
+at_lock s caller file d seqid o = by_owner (option_map (λ row. row.owner) o)
+  where
+    by_owner : Option Owner → Judgement
+    by_owner None = judged_as.Fresh
+    by_owner (Some owner) = judged (owner_at owner s.owners) seqid caller file d
+
+lock_tells : (s : Seen) (caller : Option Party) (file : ℕ) (d : Deed) (seqid : ℕ) (stateid : StateRef) (o : Option LockRow)
+    → lock_named s stateid ≡ o → lock_unresolved caller o ≡ None
+    → SeqidTells (lock_owner_stop_at s o seqid caller file d) (at_lock s caller file d seqid (lock_named_by (look s) stateid))
+unfolding lock_owner_stop_at
+lock_tells s caller file d seqid stateid None found own = cc
+lock_tells s caller file d seqid stateid (Some row) found own =
+    rw (named_lock s stateid row found) (stop_tells false (owner_at row.owner s.owners) seqid caller file d)
+
+-- a newcomer that may not come is refused
+or_refused : (stop : Option Stop) (more : Option OpStatus) (j : Judgement) → SeqidTells stop j → SeqidTells (option_or stop (refusal more)) j
+or_refused (Some (Refuse status)) more j tells = tt
+or_refused (Some (Repeat kept)) more j tells = tells
+or_refused None None j tells = tells
+or_refused None (Some status) j tells = tt
+
+-- the judgement of an operation by its owner
+abbrev at_owner : Seen → Option Party → ℕ → Deed → ℕ → Option Owner → Judgement
+at_owner s caller file d seqid None = judged_as.Fresh
+at_owner s caller file d seqid (Some owner) = judged (owner_at owner s.owners) seqid caller file d
+
+locker_tells : (s : Seen) (caller : Option Party) (file : ℕ) (args : LockArgs) (verdict : Verdict) (locker : Locker)
+    → (lock_checks s caller file args locker verdict).unresolved ≡ None
+    → SeqidTells (lock_checks s caller file args locker verdict).seqid (at_owner s caller file (deed.Lock args) (locker_seqid locker) (locker_owner (look s) locker))
+unfolding lock_checks look
+locker_tells s None file args verdict (New open_seqid stateid lock_seqid text) own = cc
+locker_tells s (Some party) file args verdict (New open_seqid stateid lock_seqid text) own =
+    or_refused _ _ _ (row_tells s (Some party) file (deed.Lock args) open_seqid stateid (resolved s stateid) refl own)
+locker_tells s caller file args verdict (Known stateid lock_seqid) own =
+    lock_tells s caller file (deed.Lock args) lock_seqid stateid (lock_named s stateid) refl own
+
 by_size_tells : (s : Seen) (caller : Option Party) (file : ℕ) (args : SetAttrArgs) (verdict : Verdict) (b : Bool)
     → SeqidTells (cond b (size_checks s caller file args verdict) (mode_checks s file args verdict)).seqid judged_as.Fresh
 unfolding size_checks mode_checks
@@ -193,12 +255,15 @@ by_size_tells s caller file args verdict false = refl
 
 pub seqid_tells : (s : Seen) (caller : Option Party) (file : ℕ) (verdict : Verdict) (d : Deed) → (checks s caller file verdict d).unresolved ≡ None
     → SeqidTells (checks s caller file verdict d).seqid (judgement (look s) (record { caller = caller; file = file; deed = d }))
-unfolding file_checks dir_checks lookup_checks create_checks remove_checks readdir_checks read_checks write_checks setattr_checks commit_checks open_checks close_checks confirm_checks downgrade_checks judgement_for seqid_owner seqid_of look
+unfolding file_checks dir_checks lookup_checks create_checks remove_checks readdir_checks read_checks write_checks setattr_checks commit_checks open_checks close_checks confirm_checks downgrade_checks test_checks unlock_checks release_checks judgement_for seqid_owner seqid_of look
 seqid_tells s caller file verdict (deed.Access _) own = refl
 seqid_tells s caller file verdict (deed.Close args) own = row_tells s caller file (deed.Close args) args.seqid args.stateid (resolved s args.stateid) refl own
 seqid_tells s caller file verdict (deed.Commit _) own = refl
 seqid_tells s caller file verdict (deed.Create args) own = refl
 seqid_tells s caller file verdict (deed.GetAttr _) own = refl
+seqid_tells s caller file verdict (deed.Lock args) own = locker_tells s caller file args verdict args.locker own
+seqid_tells s None file verdict (deed.LockTest args) own = cc
+seqid_tells s (Some party) file verdict (deed.LockTest args) own = refl
 seqid_tells s caller file verdict (deed.Lookup args) own = refl
 seqid_tells s caller file verdict deed.LookupP own = refl
 seqid_tells s None file verdict (deed.Open args) own = cc
@@ -207,8 +272,11 @@ seqid_tells s caller file verdict (deed.OpenConfirm args) own = row_tells s call
 seqid_tells s caller file verdict (deed.OpenDowngrade args) own = row_tells s caller file (deed.OpenDowngrade args) args.seqid args.stateid (resolved s args.stateid) refl own
 seqid_tells s caller file verdict (deed.Read _) own = refl
 seqid_tells s caller file verdict (deed.ReadDir _) own = refl
+seqid_tells s None file verdict (deed.ReleaseLockOwner _) own = cc
+seqid_tells s (Some party) file verdict (deed.ReleaseLockOwner _) own = refl
 seqid_tells s caller file verdict (deed.Remove _) own = refl
 seqid_tells s caller file verdict (deed.SetAttr args) own = by_size_tells s caller file args verdict (has_size args.attributes.words)
+seqid_tells s caller file verdict (deed.Unlock args) own = lock_tells s caller file (deed.Unlock args) args.seqid args.stateid (lock_named s args.stateid) refl own
 seqid_tells s caller file verdict (deed.Write _) own = refl
 
 -- What nothing stops is fresh.
@@ -236,31 +304,83 @@ either_way : {A : Type 0} (b : Bool) (x : A) → cond b x x ≡ x
 either_way true x = refl
 either_way false x = refl
 
-pub words-refused : (n : Now) (call : Call) (verdict : Verdict) (status : OpStatus)
-    → words n (Asked call verdict) (reply_with status (refused_value call.deed))
-    ≡ with_owners no_words (owner_word n call (reply_with status (refused_value call.deed)))
-unfolding words set_tree is_empty
-words-refused n call verdict status =
-    ap (λ w. with_owners w (owner_word n call (reply_with status (refused_value call.deed))))
-    (by_deed (acts n call (reply_with status (refused_value call.deed))) call.caller call.deed)
+-- what a refusal's value says to a call
+pub record SaysNothing (n : Now) (call : Call) (r : Reply) (d : Deed) (value : ReplyValue) : Type 0 where
+  pub changes : (b : Bool) (caller : Option Party) → cond b (deed_words n caller call.file d value) no_words ≡ no_words
+  pub starts : (b : Bool) → cond b (started_by n call r d value) Stays ≡ Stays
+
+refused_says : (n : Now) (call : Call) (r : Reply) (d : Deed) → SaysNothing n call r d (refused_value d)
+unfolding set_tree is_empty started_by
+refused_says n call r (deed.Access _) = record { changes = λ b caller. either_way b no_words; starts = λ b. either_way b Stays }
+refused_says n call r (deed.Close _) = record { changes = λ b caller. either_way b no_words; starts = λ b. either_way b Stays }
+refused_says n call r (deed.Commit _) = record { changes = λ b caller. either_way b no_words; starts = λ b. either_way b Stays }
+refused_says n call r (deed.Create _) = record { changes = λ b caller. either_way b no_words; starts = λ b. either_way b Stays }
+refused_says n call r (deed.GetAttr _) = record { changes = λ b caller. either_way b no_words; starts = λ b. either_way b Stays }
+refused_says n call r (deed.Lock _) = record { changes = λ b caller. either_way b no_words; starts = λ b. either_way b Stays }
+refused_says n call r (deed.LockTest _) = record { changes = λ b caller. either_way b no_words; starts = λ b. either_way b Stays }
+refused_says n call r (deed.Lookup _) = record { changes = λ b caller. either_way b no_words; starts = λ b. either_way b Stays }
+refused_says n call r deed.LookupP = record { changes = λ b caller. either_way b no_words; starts = λ b. either_way b Stays }
+refused_says n call r (deed.Open args) = record { changes = by_caller; starts = λ b. either_way b Stays }
   where
-    by_deed : (b : Bool) (caller : Option Party) (d : Deed) → cond b (deed_words n caller call.file d (refused_value d)) no_words ≡ no_words
-    by_deed b caller (deed.Access _) = either_way b no_words
-    by_deed b caller (deed.Close _) = either_way b no_words
-    by_deed b caller (deed.Commit _) = either_way b no_words
-    by_deed b caller (deed.Create _) = either_way b no_words
-    by_deed b caller (deed.GetAttr _) = either_way b no_words
-    by_deed b caller (deed.Lookup _) = either_way b no_words
-    by_deed b caller deed.LookupP = either_way b no_words
-    by_deed b None (deed.Open _) = either_way b no_words
-    by_deed b (Some party) (deed.Open _) = either_way b no_words
-    by_deed b caller (deed.OpenConfirm _) = either_way b no_words
-    by_deed b caller (deed.OpenDowngrade _) = either_way b no_words
-    by_deed b caller (deed.Read _) = either_way b no_words
-    by_deed b caller (deed.ReadDir _) = either_way b no_words
-    by_deed b caller (deed.Remove _) = either_way b no_words
-    by_deed b caller (deed.SetAttr _) = either_way b no_words
-    by_deed b caller (deed.Write _) = either_way b no_words
+    by_caller : (b : Bool) (caller : Option Party) → cond b (deed_words n caller call.file (deed.Open args) (refused_value (deed.Open args))) no_words ≡ no_words
+    by_caller b None = either_way b no_words
+    by_caller b (Some party) = either_way b no_words
+refused_says n call r (deed.OpenConfirm _) = record { changes = λ b caller. either_way b no_words; starts = λ b. either_way b Stays }
+refused_says n call r (deed.OpenDowngrade _) = record { changes = λ b caller. either_way b no_words; starts = λ b. either_way b Stays }
+refused_says n call r (deed.Read _) = record { changes = λ b caller. either_way b no_words; starts = λ b. either_way b Stays }
+refused_says n call r (deed.ReadDir _) = record { changes = λ b caller. either_way b no_words; starts = λ b. either_way b Stays }
+refused_says n call r (deed.ReleaseLockOwner _) = record { changes = λ b caller. either_way b no_words; starts = λ b. either_way b Stays }
+refused_says n call r (deed.Remove _) = record { changes = λ b caller. either_way b no_words; starts = λ b. either_way b Stays }
+refused_says n call r (deed.SetAttr _) = record { changes = λ b caller. either_way b no_words; starts = λ b. either_way b Stays }
+refused_says n call r (deed.Unlock _) = record { changes = λ b caller. either_way b no_words; starts = λ b. either_way b Stays }
+refused_says n call r (deed.Write _) = record { changes = λ b caller. either_way b no_words; starts = λ b. either_way b Stays }
+
+denial_says : (n : Now) (call : Call) (r : Reply) (args : LockArgs) (o : Option Denied) → SaysNothing n call r (deed.Lock args) (told.Lock (option_map IsDenied o))
+unfolding started_by
+denial_says n call r args None = record { changes = λ b caller. either_way b no_words; starts = λ b. either_way b Stays }
+denial_says n call r args (Some denied) = record { changes = λ b caller. either_way b no_words; starts = λ b. either_way b Stays }
+
+test_says : (n : Now) (call : Call) (r : Reply) (args : LockTestArgs) (o : Option Denied) → SaysNothing n call r (deed.LockTest args) (told.LockTest o)
+unfolding started_by
+test_says n call r args o = record { changes = λ b caller. either_way b no_words; starts = λ b. either_way b Stays }
+
+denied_says : (s : Seen) (call : Call) (r : Reply) (caller : Option Party) (file : ℕ) (d : Deed) → SaysNothing (look s) call r d (denied_value s caller file d)
+denied_says s call r caller file (deed.Lock args) = denial_says (look s) call r args (lock_denied s file args)
+denied_says s call r caller file (deed.LockTest args) = test_says (look s) call r args (test_denied s caller file args)
+denied_says s call r caller file (deed.Access args) = refused_says (look s) call r (deed.Access args)
+denied_says s call r caller file (deed.Close args) = refused_says (look s) call r (deed.Close args)
+denied_says s call r caller file (deed.Commit args) = refused_says (look s) call r (deed.Commit args)
+denied_says s call r caller file (deed.Create args) = refused_says (look s) call r (deed.Create args)
+denied_says s call r caller file (deed.GetAttr args) = refused_says (look s) call r (deed.GetAttr args)
+denied_says s call r caller file (deed.Lookup args) = refused_says (look s) call r (deed.Lookup args)
+denied_says s call r caller file deed.LookupP = refused_says (look s) call r deed.LookupP
+denied_says s call r caller file (deed.Open args) = refused_says (look s) call r (deed.Open args)
+denied_says s call r caller file (deed.OpenConfirm args) = refused_says (look s) call r (deed.OpenConfirm args)
+denied_says s call r caller file (deed.OpenDowngrade args) = refused_says (look s) call r (deed.OpenDowngrade args)
+denied_says s call r caller file (deed.Read args) = refused_says (look s) call r (deed.Read args)
+denied_says s call r caller file (deed.ReadDir args) = refused_says (look s) call r (deed.ReadDir args)
+denied_says s call r caller file (deed.ReleaseLockOwner args) = refused_says (look s) call r (deed.ReleaseLockOwner args)
+denied_says s call r caller file (deed.Remove args) = refused_says (look s) call r (deed.Remove args)
+denied_says s call r caller file (deed.SetAttr args) = refused_says (look s) call r (deed.SetAttr args)
+denied_says s call r caller file (deed.Unlock args) = refused_says (look s) call r (deed.Unlock args)
+denied_says s call r caller file (deed.Write args) = refused_says (look s) call r (deed.Write args)
+
+refusal_says : (s : Seen) (call : Call) (r : Reply) (status : OpStatus) → SaysNothing (look s) call r call.deed (refusal_value s call.caller call.file call.deed status)
+refusal_says s call r status = by_denial (is_denial status)
+  where
+    by_denial : (b : Bool) → SaysNothing (look s) call r call.deed (cond b (denied_value s call.caller call.file call.deed) (refused_value call.deed))
+    by_denial true = denied_says s call r call.caller call.file call.deed
+    by_denial false = refused_says (look s) call r call.deed
+
+pub words-refused : (s : Seen) (call : Call) (verdict : Verdict) (status : OpStatus)
+    → words (look s) (Asked call verdict) (reply_by s call (Some (Refuse status)))
+    ≡ with_owners no_words (owner_word (look s) call (reply_by s call (Some (Refuse status)))) Stays
+unfolding words
+words-refused s call verdict status =
+    let r : Reply = reply_by s call (Some (Refuse status)) in
+    let says = refusal_says s call r status in
+    rw (says.starts (acts (look s) call r))
+    (ap (λ w. with_owners w (owner_word (look s) call r) Stays) (says.changes (acts (look s) call r) call.caller))
 
 -- ---- each word keeps the tables sound
 
@@ -289,9 +409,9 @@ unfolding after_words opens_after tree_after
 sound_same s sound = record { rising = sound.rising; apart = sound.apart; numbers = sound.numbers; names = sound.names }
 
 -- what an owner moves on to has no part in it
-sound_with : (s : Seen) (w : Words) (word : OwnerWord) → IsSound (after_words s w) → IsSound (after_words s (with_owners w word))
+sound_with : (s : Seen) (w : Words) (word start : OwnerWord) → IsSound (after_words s w) → IsSound (after_words s (with_owners w word start))
 unfolding after_words
-sound_with s w word sound = record { rising = sound.rising; apart = sound.apart; numbers = sound.numbers; names = sound.names }
+sound_with s w word start sound = record { rising = sound.rising; apart = sound.apart; numbers = sound.numbers; names = sound.names }
 
 sound_tree : (s : Seen) (word : TreeWord) → MakesNext word s.tree.last_file → NamesNew word s.tree.table → IsSound s → IsSound (after_words s (record no_words { tree = word }))
 unfolding after_words opens_after
@@ -311,6 +431,15 @@ sound_drop s word p filters sound = record {
   numbers = sound.numbers;
   names = sound.names;
 }
+
+-- nor has what locks do, but that a counter may be drawn
+sound_locks : (s : Seen) (w : Words) (word : LockWord) → IsSound (after_words s w) → IsSound (after_words s (record w { locks = word }))
+unfolding after_words
+sound_locks s w word sound = record { rising = sound.rising; apart = sound.apart; numbers = sound.numbers; names = sound.names }
+
+sound_drawn : (s : Seen) (word : LockWord) → IsSound s → IsSound (after_words s (record no_words { drew = true; locks = word }))
+unfolding after_words opens_after tree_after
+sound_drawn s word sound = record { rising = rises-higher 0 s.last (s.last + 1) s.opens (omega arith) sound.rising; apart = sound.apart; numbers = sound.numbers; names = sound.names }
 
 -- the file that a claim names is found in what stands as in the tables
 pub claimed_is_target : (rows : List FileRow) (file : ℕ) (name : Option (List ℕ)) → claimed_in (λ dir n. child_at dir n rows) file name ≡ target_at rows file name
@@ -388,7 +517,7 @@ named_is_live s (Named id) row found = by_fs (id.fs == s.fs) found
 sound_closed : (s : Seen) (o : Option OpenRow) → IsSound s → IsSound (after_words s (close_words (told.Close (option_map (next_stateid s.fs) o))))
 unfolding opens_after
 sound_closed s None sound = sound_same s sound
-sound_closed s (Some row) sound = sound_drop s (Drop row.counter) (λ x. not (x.counter == row.counter)) refl sound
+sound_closed s (Some row) sound = sound_locks s _ (ClosedWith row.counter) (sound_drop s (Drop row.counter) (λ x. not (x.counter == row.counter)) refl sound)
 
 -- a live open is changed in its place
 sound_put : (s : Seen) (old new : OpenRow) → new.counter ≡ old.counter → open_at old.counter s.opens ≡ Some old → Suits new s.opens → IsSound s
@@ -455,16 +584,35 @@ create_goes s dir args verdict goes =
     none_there None h = refl
     none_there (Some number) h = absurd (true≢false h)
 
+-- a lock, an unlock
+sound_locked : (s : Seen) (caller : Option Party) (file : ℕ) (args : LockArgs) (locker : Locker) → IsSound s
+    → IsSound (after_words s (lock_words (look s) caller file (record args { locker = locker }) (told.Lock (lock_value s (record args { locker = locker })))))
+unfolding locked_stateid changed_lock
+sound_locked s None file args (New open_seqid stateid lock_seqid text) sound = sound_same s sound
+sound_locked s (Some party) file args (New open_seqid stateid lock_seqid text) sound = sound_drawn s _ sound
+sound_locked s caller file args (Known stateid lock_seqid) sound = by_row (lock_named s stateid)
+  where
+    by_row : (o : Option LockRow) → IsSound (after_words s (lock_words (look s) caller file (record args { locker = Known stateid lock_seqid }) (told.Lock (option_map Locked (option_map (next_lock_stateid s.fs) o)))))
+    by_row None = sound_same s sound
+    by_row (Some row) = sound_locks s no_words _ (sound_same s sound)
+
+sound_unlocked : (s : Seen) (args : UnlockArgs) (o : Option LockRow) → IsSound s
+    → IsSound (after_words s (unlock_words (look s) args (told.Unlock (option_map (next_lock_stateid s.fs) o))))
+sound_unlocked s args None sound = sound_same s sound
+sound_unlocked s args (Some row) sound = sound_locks s no_words _ (sound_same s sound)
+
 -- the words of a call that nothing stops
 sound_goes : (s : Seen) (caller : Option Party) (file : ℕ) (verdict : Verdict) (d : Deed) → IsSound s
     → first (checks s caller file verdict d) ≡ None
     → IsSound (after_words s (deed_words (look s) caller file d (ok_value s caller file d)))
-unfolding open_checks changed_stateid create_value write_value
+unfolding open_checks changed_stateid create_value write_value changed_lock
 sound_goes s caller file verdict (deed.Access _) sound goes = sound_same s sound
 sound_goes s caller file verdict (deed.Close args) sound goes = sound_closed s (open_named s args.stateid) sound
 sound_goes s caller file verdict (deed.Commit _) sound goes = sound_same s sound
 sound_goes s caller file verdict (deed.Create args) sound goes = sound_tree s (Made _) refl (create_goes s file args verdict goes) sound
 sound_goes s caller file verdict (deed.GetAttr _) sound goes = sound_same s sound
+sound_goes s caller file verdict (deed.Lock args) sound goes = sound_locked s caller file args args.locker sound
+sound_goes s caller file verdict (deed.LockTest _) sound goes = sound_same s sound
 sound_goes s caller file verdict (deed.Lookup _) sound goes = sound_same s sound
 sound_goes s caller file verdict deed.LookupP sound goes = sound_same s sound
 sound_goes s None file verdict (deed.Open args) sound goes = cc
@@ -474,9 +622,12 @@ sound_goes s caller file verdict (deed.OpenDowngrade args) sound goes =
     sound_narrowed s args (open_named s args.stateid) (named_is_live s args.stateid) (downgrade_goes s caller file args verdict goes) sound
 sound_goes s caller file verdict (deed.Read _) sound goes = sound_same s sound
 sound_goes s caller file verdict (deed.ReadDir _) sound goes = sound_same s sound
+sound_goes s None file verdict (deed.ReleaseLockOwner args) sound goes = sound_same s sound
+sound_goes s (Some party) file verdict (deed.ReleaseLockOwner args) sound goes = sound_locks s no_words _ (sound_same s sound)
 sound_goes s caller file verdict (deed.Remove args) sound goes = sound_tree s (Removed file args.name) tt tt sound
 sound_goes s caller file verdict (deed.SetAttr args) sound goes = sound_tree s _ (set_makes_none _ file s.tree.last_file (asks_of args.attributes) _)
     (set_names_none _ file s.tree.table (asks_of args.attributes) _) sound
+sound_goes s caller file verdict (deed.Unlock args) sound goes = sound_unlocked s args (lock_named s args.stateid) sound
 sound_goes s caller file verdict (deed.Write args) sound goes = sound_tree s _ (write_makes_none _ file s.tree.last_file args)
     (write_names_none _ file s.tree.table args) sound
 
@@ -485,21 +636,22 @@ pub words-free : (s : Seen) (call : Call) (verdict : Verdict) → first (checks 
     → words (look s) (Asked call verdict) (reply_by s call None)
     ≡ with_owners (deed_words (look s) call.caller call.file call.deed (ok_value s call.caller call.file call.deed))
     (noted (look s) call (reply_by s call None) (seqid_owner (look s) call.caller call.deed))
+    (started_by (look s) call (reply_by s call None) call.deed (ok_value s call.caller call.file call.deed))
 unfolding words is_done
 words-free s call verdict goes = rw (free_is_fresh s call verdict goes) refl
 
 -- an event that is answered keeps the tables sound
 pub sound-after : (s : Seen) (event : Event) → IsSound s → IsSound (after s event (answer_to s event))
 unfolding answer_to words opens_after
-sound-after s (Ended party) sound = sound_with s (record no_words { opens = DropOf party }) _ (sound_drop s (DropOf party) (λ x. not (same_party party x.owner.instance)) refl sound)
+sound-after s (Ended party) sound = sound_with s (record no_words { opens = DropOf party; locks = EndedOf party }) _ _ (sound_locks s _ _ (sound_drop s (DropOf party) (λ x. not (same_party party x.owner.instance)) refl sound))
 sound-after s (Asked call verdict) sound =
     by_stop (first (checks s call.caller call.file verdict call.deed)) refl
   where
     by_stop : (x : Option Stop) → first (checks s call.caller call.file verdict call.deed) ≡ x → IsSound (after s (Asked call verdict) (reply_by s call x))
-    by_stop (Some (Refuse status)) refused = subst (λ w. IsSound (after_words s w)) (sym (words-refused (look s) call verdict status)) (sound_with s no_words _ (sound_same s sound))
+    by_stop (Some (Refuse status)) refused = subst (λ w. IsSound (after_words s w)) (sym (words-refused s call verdict status)) (sound_with s no_words _ _ (sound_same s sound))
     by_stop (Some (Repeat kept)) repeats = subst (λ w. IsSound (after_words s w)) (sym (words-old (look s) call verdict kept (repeat_is_old s call verdict kept repeats))) (sound_same s sound)
     by_stop None goes = subst (λ w. IsSound (after_words s w)) (sym (words-free s call verdict goes))
-        (sound_with s _ _ (sound_goes s call.caller call.file verdict call.deed sound goes))
+        (sound_with s _ _ _ (sound_goes s call.caller call.file verdict call.deed sound goes))
 
 -- The tables of a legal list are sound.
 pub sound-seen : (fs : ℕ) (grants : Bool) (es : Past) → IsLegal fs grants es → IsSound (seen fs grants es)
@@ -516,6 +668,8 @@ look-empty fs grants = λ i. record {
   open_by = λ k. None;
   owner_by = λ owner. None;
   closed = [];
+  locks = [];
+  ranges = [];
   last = 0;
   last_file = 15;
   change = 0;

@@ -4,7 +4,8 @@ use Rattle.std.specs.Prelude.{option_map, map, filter, not}
 use mathlib.Core.Path.{fun_ext}
 use Rattle.nm_rules.specs.Contents.{TreeNow, TreeWord, file_at, child_at, is_named, stamped, edited_at, tree_after, file_left, child_left, last_file_left, change_left}
 use Rattle.nm_rules.specs.Contents.TreeWord.{Untouched, Made, Edited, Removed}
-use Rattle.nm_rules.specs.Seqids.{closed_after}
+use Rattle.nm_rules.specs.LockRows.{locks_after, ranges_after}
+use Rattle.nm_rules.specs.Seqids.{closed_after, owner_left, owners_after}
 use Rattle.nm_rules.specs.Shares.{open_at, opens_after, open_left, OpenWord}
 use Rattle.nm_rules.specs.Shares.OpenWord.{Keep, Put, Drop, DropOf}
 use Rattle.nm_rules.specs.Past.{Words, left}
@@ -87,8 +88,10 @@ look-after_words s w rising numbers = λ i. record {
   file_by = fun_ext (λ k. file_by-after w.tree s.tree k numbers) i;
   child_by = fun_ext (λ dir. fun_ext (λ name. child_by-after w.tree s.tree dir name)) i;
   open_by = fun_ext (λ k. open_by-after w.opens s.last s.opens k rising) i;
-  owner_by = fun_ext (λ owner. owner_by-after w.owners s.owners owner) i;
-  closed = closed_after w.owners s.closed;
+  owner_by = fun_ext (λ owner. owner_by-after w.starts (owners_after w.owners s.owners) owner ∙ ap (owner_left w.starts owner) (owner_by-after w.owners s.owners owner)) i;
+  closed = closed_after w.starts (closed_after w.owners s.closed);
+  locks = locks_after w.locks s.locks;
+  ranges = ranges_after w.locks s.locks s.ranges;
   last = cond w.drew (s.last + 1) s.last;
   last_file = last_file-after w.tree s.tree i;
   change = change-after w.tree s.tree i;

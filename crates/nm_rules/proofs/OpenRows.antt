@@ -124,6 +124,11 @@ pub rises-lower : (low above last : ℕ) (rows : List OpenRow) → low ≤ above
 rises-lower low above last [] le rising = grind (arith, nat_tests)
 rises-lower low above last (row ∷ rows) le rising = grind (arith, nat_tests)
 
+-- What rises up to a number rises up to a higher one.
+pub rises-higher : (above last high : ℕ) (rows : List OpenRow) → last ≤ high → rises above last rows ≡ true → rises above high rows ≡ true
+rises-higher above last high [] le rising = grind (arith, nat_tests)
+rises-higher above last high (row ∷ rows) le rising = grind (arith, nat_tests, rises-higher row.counter last high rows)
+
 -- What a filter leaves still rises.
 pub rises-filter : (p : OpenRow → Bool) (above last : ℕ) (rows : List OpenRow) → rises above last rows ≡ true → rises above last (filter p rows) ≡ true
 rises-filter p above last [] rising = rising

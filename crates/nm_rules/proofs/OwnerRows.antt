@@ -5,7 +5,7 @@ use Rattle.std.proofs.lemmas.Bool.{both_ways}
 use Rattle.nm_rules.specs.Parties.{Party, same_party}
 use Rattle.nm_rules.specs.Owners.{same_owner}
 use Rattle.nm_rules.specs.Seqids.{OwnerWord, owner_at, put_owner, owners_after, owner_left}
-use Rattle.nm_rules.specs.Seqids.OwnerWord.{Stays, Noted, GoneOf}
+use Rattle.nm_rules.specs.Seqids.OwnerWord.{Stays, Noted, Gone, GoneOf}
 use Rattle.nm_rules.specs.declared.calls.Owner.{Owner}
 use Rattle.nm_rules.specs.declared.owners.OwnerRow.{OwnerRow}
 use Rattle.nm_rules.proofs.OwnerLemmas.{same_owner-Decides}
@@ -62,10 +62,41 @@ owner_at-gone party (x ∷ xs) owner =
     by_tests false true false other is_x gone later = rw is_x refl
     by_tests false false d other not_x gone later = rw not_x later
 
+-- an owner that goes is gone, and no other
+pub owner_at-without : (its : Owner) (rows : List OwnerRow) (owner : Owner)
+    → owner_at owner (filter (λ x. not (same_owner its x.owner)) rows) ≡ cond (same_owner owner its) None (owner_at owner rows)
+unfolding owner_at
+owner_at-without its [] owner = by_test (same_owner owner its)
+  where
+    nothing : Option OwnerRow
+    nothing = None
+
+    by_test : (b : Bool) → nothing ≡ cond b nothing nothing
+    by_test true = refl
+    by_test false = refl
+owner_at-without its (x ∷ xs) owner =
+    by_tests (same_owner its x.owner) (same_owner owner x.owner) (same_owner owner its) refl refl refl (owner_at-without its xs owner)
+  where
+    kept : OwnerRow → Bool
+    kept row = not (same_owner its row.owner)
+
+    by_tests : (b c d : Bool) → same_owner its x.owner ≡ b → same_owner owner x.owner ≡ c → same_owner owner its ≡ d
+        → owner_at owner (filter kept xs) ≡ cond d None (owner_at owner xs)
+        → owner_at owner (cond (not b) (x ∷ filter kept xs) (filter kept xs)) ≡ cond d None (cond c (Some x) (owner_at owner xs))
+    by_tests true true true is_it is_x gone later = later
+    by_tests true true false is_it is_x gone later =
+        absurd (both_ways (same_owner owner its) gone (rw ((same_owner-Decides its x.owner).0 is_it) is_x))
+    by_tests true false d is_it not_x gone later = later
+    by_tests false true true other is_x gone later =
+        absurd (both_ways (same_owner its x.owner) other (rw (← (same_owner-Decides owner its).0 gone) is_x))
+    by_tests false true false other is_x gone later = rw is_x refl
+    by_tests false false d other not_x gone later = rw not_x later
+
 -- One law for all words: what they leave of an owner is read off the table after them.
 pub owner_by-after : (word : OwnerWord) (rows : List OwnerRow) (owner : Owner)
     → owner_at owner (owners_after word rows) ≡ owner_left word owner (owner_at owner rows)
 unfolding owners_after owner_left
 owner_by-after Stays rows owner = refl
 owner_by-after (Noted row closed) rows owner = owner_at-put row rows owner
+owner_by-after (Gone its) rows owner = owner_at-without its rows owner
 owner_by-after (GoneOf party) rows owner = owner_at-gone party rows owner
