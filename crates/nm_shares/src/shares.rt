@@ -1,5 +1,5 @@
 //! The opens of one file system.
-ghost use Rattle.std.specs.Prelude.{◌≡◌, ◌<◌, ◌+◌, ◌^◌, ◌↔◌, ℕ, true, IsSome, IfSome, IfOk, OnOk, OnErr, is_none, option_copied};
+ghost use Rattle.std.specs.Prelude.{◌≡◌, ◌<◌, ◌≤◌, ◌+◌, ◌^◌, ◌↔◌, ℕ, true, IsSome, IfSome, IfOk, OnOk, OnErr, is_none, option_copied};
 ghost use Rattle.nm_rules.specs.Shares.{open_at, open_of, is_opposed};
 ghost use Rattle.nm_rules.specs.Opens.{is_share};
 ghost use Rattle.nm_rules.specs.Sound.{rises};
@@ -28,12 +28,12 @@ impl Model for Shares {
 
     ghost Value = { SharesNow };
 
-    ghost use Rattle.std.specs.Prelude.{◌≡◌, true};
+    ghost use Rattle.std.specs.Prelude.{◌≡◌, ◌≤◌, ◌^◌, true};
     ghost use Rattle.nm_rules.specs.Sound.{rises};
 
     ghost view = { λ s. record { fs = s.fs; grants = s.grants; table = s.rows.items; last = s.last } };
 
-    ghost invariant = { λ s. rises 0 s.last s.rows.items ≡ true };
+    ghost invariant = { λ s. (rises 0 s.last s.rows.items ≡ true) × (s.last ≤ 2 ^ 63) };
 }
 
 impl Shares {
@@ -57,9 +57,10 @@ impl Shares {
         &self.rows
     }
 
-    /// The counter of the last stateid that was made, 0 before the first.
+    /// The counter of the last stateid that was made, 0 before the first. It is at most 2^63.
     pub fn last(&self) -> u64
-        ensures { result ≡ self.now.last }
+        ensures value { result ≡ self.now.last }
+        ensures bound { result ≤ 2 ^ 63 }
     {
         self.last
     }

@@ -4,6 +4,7 @@ use Rattle.nm_rules.specs.Attributes.{Asks, asked_mode, asked_size, asks_of, has
 use Rattle.nm_rules.specs.Checks.{Checks, first}
 use Rattle.nm_rules.specs.Contents.TreeWord.{Made, Removed}
 use Rattle.nm_rules.specs.Data.{mode_checks, set_limit, setattr_checks, setattr_value, size_checks, write_checks, write_limit, write_value}
+use Rattle.nm_rules.specs.LockRows.{locks_after, ranges_after}
 use Rattle.nm_rules.specs.Files.{changed_dir, changes_past_end, create_checks, create_value, current, makes_past_end, remove_checks}
 use Rattle.nm_rules.specs.Parties.{Party}
 use Rattle.nm_rules.specs.Past.{new_directory, seqid_owner, set_tree, write_tree}
@@ -37,9 +38,9 @@ pub applied_write : (s : Seen) (caller : Option Party) (file : ℕ) (args : Writ
     → None ≡ first (write_checks s caller file args verdict)
     → Applied s (Asked (record { caller = caller; file = file; deed = deed.Write args }) verdict) (reply_with Nfs4Ok (told.Write (write_value args)))
     (after_word (write_tree (current s file) file args) s)
-unfolding after_word after_words opens_after owners_after closed_after seqid_owner look write_value
+unfolding after_word after_words opens_after owners_after closed_after locks_after ranges_after seqid_owner look write_value
 applied_write s caller file args verdict goes =
-    applied s (record { caller = caller; file = file; deed = deed.Write args }) verdict _ _ refl goes refl refl
+    applied s (record { caller = caller; file = file; deed = deed.Write args }) verdict _ _ refl refl goes refl refl
 
 -- ---- SETATTR
 
@@ -57,9 +58,9 @@ pub applied_set : (s : Seen) (caller : Option Party) (file : ℕ) (args : SetAtt
     → None ≡ first (setattr_checks s caller file args verdict)
     → Applied s (Asked (record { caller = caller; file = file; deed = deed.SetAttr args }) verdict) (reply_with Nfs4Ok (told.SetAttr (setattr_value args)))
     (after_word (set_tree (current s file) file (asks_of args.attributes) (set_words (asked_size (asks_of args.attributes)) (asked_mode (asks_of args.attributes)))) s)
-unfolding after_word after_words opens_after owners_after closed_after seqid_owner look setattr_value
+unfolding after_word after_words opens_after owners_after closed_after locks_after ranges_after seqid_owner look setattr_value
 applied_set s caller file args verdict goes =
-    applied s (record { caller = caller; file = file; deed = deed.SetAttr args }) verdict _ _ refl goes refl refl
+    applied s (record { caller = caller; file = file; deed = deed.SetAttr args }) verdict _ _ refl refl goes refl refl
 
 -- ---- CREATE and REMOVE
 
@@ -73,9 +74,9 @@ pub applied_create : (s : Seen) (caller : Option Party) (dir : ℕ) (args : Crea
     → None ≡ first (create_checks s dir args verdict) → Some created ≡ create_value s dir args
     → Applied s (Asked (record { caller = caller; file = dir; deed = deed.Create args }) verdict) (reply_with Nfs4Ok (told.Create (Some created)))
     (after_word (Made (new_directory (s.tree.last_file + 1) dir args.name (asks_of args.attributes))) s)
-unfolding after_word after_words opens_after owners_after closed_after seqid_owner create_value
+unfolding after_word after_words opens_after owners_after closed_after locks_after ranges_after seqid_owner create_value
 applied_create s caller dir args verdict created goes value =
-    applied s (record { caller = caller; file = dir; deed = deed.Create args }) verdict _ _ refl goes (ap (λ v. told.Create v) value) refl
+    applied s (record { caller = caller; file = dir; deed = deed.Create args }) verdict _ _ refl refl goes (ap (λ v. told.Create v) value) refl
 
 pub remove_goes : (s : Seen) (dir : ℕ) (args : RemoveArgs) (verdict : Verdict)
     → None ≡ first (remove_checks s dir args verdict) → changes_past_end s ≡ false
@@ -87,6 +88,6 @@ pub applied_remove : (s : Seen) (caller : Option Party) (dir : ℕ) (args : Remo
     → None ≡ first (remove_checks s dir args verdict)
     → Applied s (Asked (record { caller = caller; file = dir; deed = deed.Remove args }) verdict) (reply_with Nfs4Ok (told.Remove (Some (changed_dir s dir))))
     (after_word (Removed dir args.name) s)
-unfolding after_word after_words opens_after owners_after closed_after seqid_owner
+unfolding after_word after_words opens_after owners_after closed_after locks_after ranges_after seqid_owner
 applied_remove s caller dir args verdict goes =
-    applied s (record { caller = caller; file = dir; deed = deed.Remove args }) verdict _ _ refl goes refl refl
+    applied s (record { caller = caller; file = dir; deed = deed.Remove args }) verdict _ _ refl refl goes refl refl

@@ -2,7 +2,10 @@ pub mod AppliedLemmas
 pub mod AttributeLemmas
 pub mod EditLemmas
 pub mod HolderLemmas
+pub mod LockLemmas
 pub mod OpeningLemmas
 pub mod PageLemmas
+pub mod RangeLemmas
+pub mod ShownLemmas
 pub mod TurnLemmas
 pub mod WentLemmas

@@ -7,11 +7,13 @@ use Rattle.nm_rules.specs.Parties.{Party}
 use Rattle.nm_rules.specs.Attributes.{asked_size}
 use Rattle.nm_rules.specs.Contents.{TreeWord, file_at, child_at, tree_after, size_limit, total_limit, total_size}
 use Rattle.nm_rules.specs.Shares.{open_at, open_of, put_open, opens_after}
-use Rattle.nm_rules.specs.Past.{Words, words, no_words, with_owners, is_done, deed_words, judgement_for, noted, owner_word, seqid_owner, claimed_name, claimed_in, opener, open_tree, opentype_asks, cuts}
+use Rattle.nm_rules.specs.LockRows.{locks_after, ranges_after}
+use Rattle.nm_rules.specs.Past.{Now, Words, words, no_words, with_owners, is_done, deed_words, judgement_for, noted, owner_word, seqid_owner, started_by, claimed_name, claimed_in, opener, open_tree, opentype_asks, cuts}
+use Rattle.nm_rules.specs.Seqids.{OwnerWord, advances, closed_after, owners_after}
 use Rattle.nm_rules.specs.Seqids.OwnerWord.{Stays}
 use Rattle.nm_rules.specs.Seen.{Seen, look, after, after_words, empty}
 use Rattle.nm_rules.specs.Opens.{GoesOpen, file_to_open, target, tree_limit}
-use Rattle.nm_rules.specs.Answer.{answer_to, reply_by, reply_with, refused_value, ok_value, checks}
+use Rattle.nm_rules.specs.Answer.{answer_to, reply_by, reply_with, refused_value, refusal_value, denied_value, is_denial, ok_value, checks}
 use Rattle.nm_rules.specs.Checks.{Stop, first, refusal, refuse_if}
 use Rattle.nm_rules.specs.Files.{changes_past_end, sized_limit}
 use Rattle.nm_rules.proofs.Classes.{or_none, refuse_if-none}
@@ -33,7 +35,7 @@ use Rattle.nm_rules.specs.declared.calls.Reply.{Reply}
 use Rattle.nm_rules.specs.declared.calls.ReplyValue.TheVariants as told
 use Rattle.nm_rules.specs.declared.calls.ReplyValue.{ReplyValue}
 use Rattle.nm_rules.specs.declared.status.OpStatus.{OpStatus}
-use Rattle.nm_rules.specs.declared.status.OpStatus.TheVariants.{Nfs4Ok, FBig, NoSpc, Resource}
+use Rattle.nm_rules.specs.declared.status.OpStatus.TheVariants.{Nfs4Ok, FBig, NoSpc, Resource, Denied as DeniedStatus}
 use Rattle.nm_rules.specs.declared.rows.OpenRow.{OpenRow}
 use Rattle.nm_rules.proofs.Legal.{words-refused, sound-after}
 use Rattle.nm_rules.proofs.OwnerLaws.{same-after}
@@ -53,6 +55,78 @@ pub answered : (s : Seen) (call : Call) (verdict : Verdict) (value : ReplyValue)
     → reply_with Nfs4Ok value ≡ answer_to s (Asked call verdict)
 answered s call verdict value goes it = ap (reply_with Nfs4Ok) it ∙ stopped_answer s call verdict None (sym goes)
 
+-- ---- what a refusal tells
+
+-- an operation whose refusals tell nothing of what is in the way
+abbrev pub is_plain : Deed → Bool
+is_plain (deed.Lock _) = false
+is_plain (deed.LockTest _) = false
+is_plain _ = true
+
+either : {A : Type 0} (b : Bool) (x : A) → cond b x x ≡ x
+either true x = refl
+either false x = refl
+
+pub plain_refusal : (s : Seen) (caller : Option Party) (file : ℕ) (d : Deed) (status : OpStatus) → is_plain d ≡ true → refusal_value s caller file d status ≡ refused_value d
+plain_refusal s caller file (deed.Access args) status plain = either (is_denial status) _
+plain_refusal s caller file (deed.Close args) status plain = either (is_denial status) _
+plain_refusal s caller file (deed.Commit args) status plain = either (is_denial status) _
+plain_refusal s caller file (deed.Create args) status plain = either (is_denial status) _
+plain_refusal s caller file (deed.GetAttr args) status plain = either (is_denial status) _
+plain_refusal s caller file (deed.Lock args) status plain = absurd (true≢false (sym plain))
+plain_refusal s caller file (deed.LockTest args) status plain = absurd (true≢false (sym plain))
+plain_refusal s caller file (deed.Lookup args) status plain = either (is_denial status) _
+plain_refusal s caller file deed.LookupP status plain = either (is_denial status) _
+plain_refusal s caller file (deed.Open args) status plain = either (is_denial status) _
+plain_refusal s caller file (deed.OpenConfirm args) status plain = either (is_denial status) _
+plain_refusal s caller file (deed.OpenDowngrade args) status plain = either (is_denial status) _
+plain_refusal s caller file (deed.Read args) status plain = either (is_denial status) _
+plain_refusal s caller file (deed.ReadDir args) status plain = either (is_denial status) _
+plain_refusal s caller file (deed.ReleaseLockOwner args) status plain = either (is_denial status) _
+plain_refusal s caller file (deed.Remove args) status plain = either (is_denial status) _
+plain_refusal s caller file (deed.SetAttr args) status plain = either (is_denial status) _
+plain_refusal s caller file (deed.Unlock args) status plain = either (is_denial status) _
+plain_refusal s caller file (deed.Write args) status plain = either (is_denial status) _
+
+-- no status but DENIED does
+pub other_refusal : (s : Seen) (caller : Option Party) (file : ℕ) (d : Deed) (status : OpStatus) → is_denial status ≡ false → refusal_value s caller file d status ≡ refused_value d
+other_refusal s caller file d status other = ap (λ b. cond b (denied_value s caller file d) (refused_value d)) other
+
+-- one whose owner stays
+pub stays_other : (status : OpStatus) → advances status ≡ false → is_denial status ≡ false
+unfolding advances is_denial
+stays_other DeniedStatus stays = absurd (true≢false stays)
+stays_other _ stays = refl
+
+-- ---- what starts a lock owner, or ends it
+
+abbrev pub starts_none : Deed → Bool
+starts_none (deed.Lock _) = false
+starts_none (deed.ReleaseLockOwner _) = false
+starts_none _ = true
+
+pub no_start : (n : Now) (call : Call) (r : Reply) (d : Deed) (value : ReplyValue) → starts_none d ≡ true → Stays ≡ started_by n call r d value
+unfolding started_by
+no_start n call r (deed.Access args) value none = refl
+no_start n call r (deed.Close args) value none = refl
+no_start n call r (deed.Commit args) value none = refl
+no_start n call r (deed.Create args) value none = refl
+no_start n call r (deed.GetAttr args) value none = refl
+no_start n call r (deed.Lock args) value none = absurd (true≢false (sym none))
+no_start n call r (deed.LockTest args) value none = refl
+no_start n call r (deed.Lookup args) value none = refl
+no_start n call r deed.LookupP value none = refl
+no_start n call r (deed.Open args) value none = refl
+no_start n call r (deed.OpenConfirm args) value none = refl
+no_start n call r (deed.OpenDowngrade args) value none = refl
+no_start n call r (deed.Read args) value none = refl
+no_start n call r (deed.ReadDir args) value none = refl
+no_start n call r (deed.ReleaseLockOwner args) value none = absurd (true≢false (sym none))
+no_start n call r (deed.Remove args) value none = refl
+no_start n call r (deed.SetAttr args) value none = refl
+no_start n call r (deed.Unlock args) value none = refl
+no_start n call r (deed.Write args) value none = refl
+
 -- ---- operations without a seqid
 
 abbrev pub HasNone : Seen → Call → Type 0
@@ -62,6 +136,7 @@ HasNone s call = seqid_owner (look s) call.caller call.deed ≡ None
 no_owner : (s : Seen) (call : Call) (verdict : Verdict) (r : Reply) → HasNone s call
     → words (look s) (Asked call verdict) r
     ≡ with_owners (cond (is_done r.status) (deed_words (look s) call.caller call.file call.deed r.value) no_words) Stays
+    (cond (is_done r.status) (started_by (look s) call r call.deed r.value) Stays)
 unfolding words judgement_for noted
 no_owner s call verdict r none = rw none refl
 
@@ -69,44 +144,56 @@ stays_put : (s : Seen) (call : Call) (r : Reply) → HasNone s call → owner_wo
 unfolding judgement_for noted
 stays_put s call r none = rw none refl
 
--- a refusal leaves all as it was
-after-refused : (s : Seen) (call : Call) (verdict : Verdict) (status : OpStatus) → HasNone s call
-    → after s (Asked call verdict) (reply_with status (refused_value call.deed)) ≡ s
-after-refused s call verdict status none =
-    ap (after_words s) (words-refused (look s) call verdict status ∙ ap (with_owners no_words) (stays_put s call (reply_with status (refused_value call.deed)) none))
-    ∙ same-after s
-
--- a call that is refused
-pub applied_refused : (s : Seen) (call : Call) (verdict : Verdict) (status : OpStatus) → HasNone s call
-    → Some (Refuse status) ≡ first (checks s call.caller call.file verdict call.deed)
-    → Applied s (Asked call verdict) (reply_with status (refused_value call.deed)) s
-applied_refused s call verdict status none stops = record {
-  answer = stopped_answer s call verdict (Some (Refuse status)) (sym stops);
-  tables = sym (after-refused s call verdict status none);
+-- a refusal leaves all as it was, where no owner moves on by it
+pub applied_stopped : (s : Seen) (call : Call) (verdict : Verdict) (status : OpStatus)
+    → first (checks s call.caller call.file verdict call.deed) ≡ Some (Refuse status)
+    → owner_word (look s) call (reply_by s call (Some (Refuse status))) ≡ Stays
+    → Applied s (Asked call verdict) (reply_by s call (Some (Refuse status))) s
+applied_stopped s call verdict status stops stays = record {
+  answer = stopped_answer s call verdict (Some (Refuse status)) stops;
+  tables = sym (ap (after_words s) (words-refused s call verdict status ∙ ap (λ w. with_owners no_words w Stays) stays) ∙ same-after s);
 }
 
+-- a call that is refused
+pub applied_refused : (s : Seen) (call : Call) (verdict : Verdict) (status : OpStatus) → HasNone s call → is_plain call.deed ≡ true
+    → Some (Refuse status) ≡ first (checks s call.caller call.file verdict call.deed)
+    → Applied s (Asked call verdict) (reply_with status (refused_value call.deed)) s
+applied_refused s call verdict status none plain stops =
+    subst (λ v. Applied s (Asked call verdict) (reply_with status v) s) (plain_refusal s call.caller call.file call.deed status plain)
+    (applied_stopped s call verdict status (sym stops) (stays_put s call (reply_by s call (Some (Refuse status))) none))
+
 -- and what one leaves that nothing stops, by its words
-pub applied : (s : Seen) (call : Call) (verdict : Verdict) (value : ReplyValue) (new : Seen) → HasNone s call
+pub applied_starting : (s : Seen) (call : Call) (verdict : Verdict) (value : ReplyValue) (start : OwnerWord) (new : Seen) → HasNone s call
     → None ≡ first (checks s call.caller call.file verdict call.deed)
     → value ≡ ok_value s call.caller call.file call.deed
-    → new ≡ after_words s (with_owners (deed_words (look s) call.caller call.file call.deed (ok_value s call.caller call.file call.deed)) Stays)
+    → start ≡ started_by (look s) call (reply_with Nfs4Ok value) call.deed value
+    → new ≡ after_words s (with_owners (deed_words (look s) call.caller call.file call.deed value) Stays start)
     → Applied s (Asked call verdict) (reply_with Nfs4Ok value) new
 unfolding is_done
-applied s call verdict value new none goes it leaves = record {
+applied_starting s call verdict value start new none goes it starts leaves = record {
   answer = answered s call verdict value goes it;
   tables = leaves
-      ∙ ap (λ v. after_words s (with_owners (deed_words (look s) call.caller call.file call.deed v) Stays)) (sym it)
+      ∙ ap (λ x. after_words s (with_owners (deed_words (look s) call.caller call.file call.deed value) Stays x)) starts
       ∙ ap (after_words s) (sym (no_owner s call verdict (reply_with Nfs4Ok value) none));
 }
 
+pub applied : (s : Seen) (call : Call) (verdict : Verdict) (value : ReplyValue) (new : Seen) → HasNone s call → starts_none call.deed ≡ true
+    → None ≡ first (checks s call.caller call.file verdict call.deed)
+    → value ≡ ok_value s call.caller call.file call.deed
+    → new ≡ after_words s (with_owners (deed_words (look s) call.caller call.file call.deed (ok_value s call.caller call.file call.deed)) Stays Stays)
+    → Applied s (Asked call verdict) (reply_with Nfs4Ok value) new
+applied s call verdict value new none plain goes it leaves =
+    applied_starting s call verdict value Stays new none goes it (no_start (look s) call (reply_with Nfs4Ok value) call.deed value plain)
+    (leaves ∙ ap (λ v. after_words s (with_owners (deed_words (look s) call.caller call.file call.deed v) Stays Stays)) (sym it))
+
 -- with its end all that an instance holds goes
 pub applied_end : (s : Seen) (party : Party) → Applied s (Ended party) (reply_with Nfs4Ok told.Nothing) (after_end s party)
-unfolding answer_to words after_words tree_after after_end
+unfolding answer_to words after_words tree_after after_end owners_after closed_after
 applied_end s party = record { answer = refl; tables = refl }
 
-either_way : {A : Type 0} (b : Bool) (x : A) → cond b x x ≡ x
-either_way true x = refl
-either_way false x = refl
+nothing_said : (b : Bool) → with_owners (cond b no_words no_words) Stays (cond b Stays Stays) ≡ no_words
+nothing_said true = refl
+nothing_said false = refl
 
 -- a call that never changes anything
 abbrev pub no_change : Deed → Bool
@@ -115,6 +202,8 @@ no_change (deed.Close _) = false
 no_change (deed.Commit _) = true
 no_change (deed.Create _) = false
 no_change (deed.GetAttr _) = true
+no_change (deed.Lock _) = false
+no_change (deed.LockTest _) = true
 no_change (deed.Lookup _) = true
 no_change deed.LookupP = true
 no_change (deed.Open _) = false
@@ -122,27 +211,33 @@ no_change (deed.OpenConfirm _) = false
 no_change (deed.OpenDowngrade _) = false
 no_change (deed.Read _) = true
 no_change (deed.ReadDir _) = true
+no_change (deed.ReleaseLockOwner _) = false
 no_change (deed.Remove _) = false
 no_change (deed.SetAttr _) = false
+no_change (deed.Unlock _) = false
 no_change (deed.Write _) = false
 
 unchanged : (s : Seen) (caller : Option Party) (file : ℕ) (d : Deed) (verdict : Verdict) (r : Reply) → no_change d ≡ true
     → words (look s) (Asked (record { caller = caller; file = file; deed = d }) verdict) r ≡ no_words
-unfolding seqid_owner
-unchanged s caller file (deed.Access args) verdict r h = no_owner s (record { caller = caller; file = file; deed = deed.Access args }) verdict r refl ∙ ap (λ w. with_owners w Stays) (either_way (is_done r.status) no_words)
+unfolding seqid_owner started_by
+unchanged s caller file (deed.Access args) verdict r h = no_owner s (record { caller = caller; file = file; deed = deed.Access args }) verdict r refl ∙ nothing_said (is_done r.status)
 unchanged s caller file (deed.Close _) verdict r h = absurd (true≢false (sym h))
-unchanged s caller file (deed.Commit args) verdict r h = no_owner s (record { caller = caller; file = file; deed = deed.Commit args }) verdict r refl ∙ ap (λ w. with_owners w Stays) (either_way (is_done r.status) no_words)
+unchanged s caller file (deed.Commit args) verdict r h = no_owner s (record { caller = caller; file = file; deed = deed.Commit args }) verdict r refl ∙ nothing_said (is_done r.status)
 unchanged s caller file (deed.Create _) verdict r h = absurd (true≢false (sym h))
-unchanged s caller file (deed.GetAttr args) verdict r h = no_owner s (record { caller = caller; file = file; deed = deed.GetAttr args }) verdict r refl ∙ ap (λ w. with_owners w Stays) (either_way (is_done r.status) no_words)
-unchanged s caller file (deed.Lookup args) verdict r h = no_owner s (record { caller = caller; file = file; deed = deed.Lookup args }) verdict r refl ∙ ap (λ w. with_owners w Stays) (either_way (is_done r.status) no_words)
-unchanged s caller file deed.LookupP verdict r h = no_owner s (record { caller = caller; file = file; deed = deed.LookupP }) verdict r refl ∙ ap (λ w. with_owners w Stays) (either_way (is_done r.status) no_words)
+unchanged s caller file (deed.GetAttr args) verdict r h = no_owner s (record { caller = caller; file = file; deed = deed.GetAttr args }) verdict r refl ∙ nothing_said (is_done r.status)
+unchanged s caller file (deed.Lock _) verdict r h = absurd (true≢false (sym h))
+unchanged s caller file (deed.LockTest args) verdict r h = no_owner s (record { caller = caller; file = file; deed = deed.LockTest args }) verdict r refl ∙ nothing_said (is_done r.status)
+unchanged s caller file (deed.Lookup args) verdict r h = no_owner s (record { caller = caller; file = file; deed = deed.Lookup args }) verdict r refl ∙ nothing_said (is_done r.status)
+unchanged s caller file deed.LookupP verdict r h = no_owner s (record { caller = caller; file = file; deed = deed.LookupP }) verdict r refl ∙ nothing_said (is_done r.status)
 unchanged s caller file (deed.Open _) verdict r h = absurd (true≢false (sym h))
 unchanged s caller file (deed.OpenConfirm _) verdict r h = absurd (true≢false (sym h))
 unchanged s caller file (deed.OpenDowngrade _) verdict r h = absurd (true≢false (sym h))
-unchanged s caller file (deed.Read args) verdict r h = no_owner s (record { caller = caller; file = file; deed = deed.Read args }) verdict r refl ∙ ap (λ w. with_owners w Stays) (either_way (is_done r.status) no_words)
-unchanged s caller file (deed.ReadDir args) verdict r h = no_owner s (record { caller = caller; file = file; deed = deed.ReadDir args }) verdict r refl ∙ ap (λ w. with_owners w Stays) (either_way (is_done r.status) no_words)
+unchanged s caller file (deed.Read args) verdict r h = no_owner s (record { caller = caller; file = file; deed = deed.Read args }) verdict r refl ∙ nothing_said (is_done r.status)
+unchanged s caller file (deed.ReadDir args) verdict r h = no_owner s (record { caller = caller; file = file; deed = deed.ReadDir args }) verdict r refl ∙ nothing_said (is_done r.status)
+unchanged s caller file (deed.ReleaseLockOwner _) verdict r h = absurd (true≢false (sym h))
 unchanged s caller file (deed.Remove _) verdict r h = absurd (true≢false (sym h))
 unchanged s caller file (deed.SetAttr _) verdict r h = absurd (true≢false (sym h))
+unchanged s caller file (deed.Unlock _) verdict r h = absurd (true≢false (sym h))
 unchanged s caller file (deed.Write _) verdict r h = absurd (true≢false (sym h))
 
 pub applied_same : (s : Seen) (caller : Option Party) (file : ℕ) (d : Deed) (verdict : Verdict) (r : Reply) → no_change d ≡ true

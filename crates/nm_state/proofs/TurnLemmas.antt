@@ -1,31 +1,40 @@
 -- Whose turn it is, and what an operation leaves whose turn it was.
-use Rattle.std.proofs.Common.{◌≡◌, ℕ, Bool, true, false, cond, Option, Some, None, refl, ap, sym, subst, ◌∙◌}
+use Rattle.std.proofs.Common.{◌≡◌, ℕ, Bool, true, false, cond, List, Option, Some, None, refl, ap, sym, subst, ◌∙◌}
 use Rattle.std.specs.Prelude.{◌==◌, not, nat_le, option_map}
 use Rattle.std.specs.Option.{option_or}
-use Rattle.nm_rules.specs.Answer.{answer_to, checks, ok_value, refused_value, reply_by, reply_with}
+use Rattle.nm_rules.specs.Answer.{answer_to, checks, is_denial, ok_value, refused_value, refusal_value, reply_by, reply_with}
 use Rattle.nm_rules.specs.Checks.{Checks, Stop, behind_seqid, first, refusal}
 use Rattle.nm_rules.specs.Checks.Stop.{Refuse, Repeat}
 use Rattle.nm_rules.specs.Lists.{is_empty}
+use Rattle.nm_rules.specs.LockAsks.{lock_owner}
+use Rattle.nm_rules.specs.LockOps.{is_out_of_turn, lock_checks, newcomer_stop, unlock_checks}
+use Rattle.nm_rules.specs.LockRows.{lock_at, locks_after, ranges_after}
 use Rattle.nm_rules.specs.Opens.{claim_unresolved, close_checks, confirm_checks, downgrade_checks, open_checks, rows_limit, rows_taken, GoesOpen}
 use Rattle.nm_rules.specs.Parties.{Party}
-use Rattle.nm_rules.specs.Past.{Now, Words, closed_by, deed_words, is_done, judgement, named_by, no_words, noted, opener, owner_named, owner_word, seqid_owner, set_tree, with_owners, words}
+use Rattle.nm_rules.specs.Past.{Now, Words, acts, set_tree, closed_by, deed_words, is_done, judgement, lock_named_by, lock_owner_named, named_by, no_words, noted, noted_row, opener, owner_named, owner_word, seqid_owner, started_by, with_owners, words}
 use Rattle.nm_rules.specs.Seen.{Seen, after, after_words, look}
 use Rattle.nm_rules.specs.Seqids.{OwnerWord, advances, closed_after, is_fresh, judged, owner_at, owners_after}
 use Rattle.nm_rules.specs.Seqids.OwnerWord.{Stays}
 use Rattle.nm_rules.specs.Shares.{open_at}
-use Rattle.nm_rules.specs.Stateids.{is_own, judged_stop, owner_stop, owner_stop_at, resolved, unresolved_at}
+use Rattle.nm_rules.specs.Stateids.{is_own, is_own_lock, judged_stop, lock_named, lock_owner_stop_at, lock_unresolved, owner_stop, owner_stop_at, resolved, unresolved_at}
 use Rattle.nm_rules.specs.declared.args.Claim.{Claim}
 use Rattle.nm_rules.specs.declared.args.Claim.TheVariants.{Null, Previous, DelegateCur, DelegatePrev}
 use Rattle.nm_rules.specs.declared.args.CloseArgs.{CloseArgs}
+use Rattle.nm_rules.specs.declared.args.LockArgs.{LockArgs}
+use Rattle.nm_rules.specs.declared.args.LockTestArgs.{LockTestArgs}
+use Rattle.nm_rules.specs.declared.args.Locker.{Locker}
+use Rattle.nm_rules.specs.declared.args.Locker.TheVariants.{New, Known}
 use Rattle.nm_rules.specs.declared.args.OpenArgs.{OpenArgs}
 use Rattle.nm_rules.specs.declared.args.OpenConfirmArgs.{OpenConfirmArgs}
 use Rattle.nm_rules.specs.declared.args.OpenDowngradeArgs.{OpenDowngradeArgs}
+use Rattle.nm_rules.specs.declared.args.UnlockArgs.{UnlockArgs}
 use Rattle.nm_rules.specs.declared.calls.Call.{Call}
 use Rattle.nm_rules.specs.declared.calls.Deed.{Deed}
 use Rattle.nm_rules.specs.declared.calls.Deed.TheVariants as deed
 use Rattle.nm_rules.specs.declared.calls.Event.TheVariants.{Asked}
 use Rattle.nm_rules.specs.declared.calls.Owner.{Owner}
 use Rattle.nm_rules.specs.declared.calls.Reply.{Reply}
+use Rattle.nm_rules.specs.declared.calls.ReplyValue.{ReplyValue}
 use Rattle.nm_rules.specs.declared.calls.ReplyValue.TheVariants as told
 use Rattle.nm_rules.specs.declared.calls.StateRef.{StateRef}
 use Rattle.nm_rules.specs.declared.calls.StateRef.TheVariants.{Zeros, Ones, Named}
@@ -33,14 +42,20 @@ use Rattle.nm_rules.specs.declared.calls.Verdict.{Verdict}
 use Rattle.nm_rules.specs.declared.owners.Judgement.{Judgement}
 use Rattle.nm_rules.specs.declared.owners.Judgement.TheVariants as judged_as
 use Rattle.nm_rules.specs.declared.owners.OwnerRow.{OwnerRow}
+use Rattle.nm_rules.specs.declared.results.Denied.{Denied}
+use Rattle.nm_rules.specs.declared.results.LockOutcome.TheVariants.{Denied as IsDenied}
+use Rattle.nm_rules.specs.declared.rows.LockRow.{LockRow}
 use Rattle.nm_rules.specs.declared.rows.OpenRow.{OpenRow}
 use Rattle.nm_rules.specs.declared.status.OpStatus.{OpStatus}
-use Rattle.nm_rules.specs.declared.status.OpStatus.TheVariants.{BadStateId, Nfs4Ok, StaleClientId}
+use Rattle.nm_rules.specs.declared.status.OpStatus.TheVariants.{BadSeqid, BadStateId, Nfs4Ok, StaleClientId}
 use Rattle.nm_rules.proofs.Legal.{SeqidTells, open_goes, repeat_is_old, seqid_tells, words-refused}
 use Rattle.nm_rules.proofs.OwnerLaws.{old-after, same-after}
-use Rattle.nm_state.proofs.OpeningLemmas.{stopped_answer}
+use Rattle.nm_rules.proofs.Refusals.{by_refusal}
+use Rattle.nm_state.proofs.OpeningLemmas.{applied_stopped, other_refusal, stays_other, stopped_answer}
+use Rattle.nm_state.specs.Locking.{locker_of}
 use Rattle.nm_state.specs.Opening.{Applied}
-use Rattle.nm_state.specs.Turns.{IsTurn, Passes, Went, after_noting, note_word, reply_behind, turn_at, turn_by, turn_to_open, turn_unless}
+use Rattle.nm_state.specs.Turns.{Comes, IsTurn, Locks, Passes, Went, after_noting, lock_turn_at, note_word, reply_behind, start_word, turn_at, turn_behind, turn_by, turn_to_lock, turn_to_open, turn_unless}
+use Rattle.nm_state.specs.declared.lock_asks.Newcomer.{Newcomer}
 use Rattle.nm_state.specs.declared.seqids.Turn.{Turn}
 use Rattle.nm_state.specs.declared.seqids.Turn.TheVariants.{Answered, Of}
 
@@ -58,12 +73,10 @@ stays_put n call r stays = by_fresh (is_fresh (judgement n call)) (seqid_owner n
 
 pub applied_before : (s : Seen) (call : Call) (verdict : Verdict) (status : OpStatus) → first (checks s call.caller call.file verdict call.deed) ≡ Some (Refuse status)
     → advances status ≡ false → Applied s (Asked call verdict) (reply_with status (refused_value call.deed)) s
-applied_before s call verdict status stops stays = record {
-  answer = stopped_answer s call verdict (Some (Refuse status)) stops;
-  tables = sym (ap (after_words s)
-      (words-refused (look s) call verdict status ∙ ap (with_owners no_words) (stays_put (look s) call (reply_with status (refused_value call.deed)) stays))
-      ∙ same-after s);
-}
+applied_before s call verdict status stops stays =
+    subst (λ v. Applied s (Asked call verdict) (reply_with status v) s)
+    (other_refusal s call.caller call.file call.deed status (stays_other status stays))
+    (applied_stopped s call verdict status stops (stays_put (look s) call (reply_by s call (Some (Refuse status))) stays))
 
 applied_again : (s : Seen) (call : Call) (verdict : Verdict) (kept : Reply) → first (checks s call.caller call.file verdict call.deed) ≡ Some (Repeat kept)
     → Applied s (Asked call verdict) kept s
@@ -151,6 +164,118 @@ at_turn s call verdict seqid stateid unresolved stops its = by_row (resolved s s
     by_row None found own stops = bad own
     by_row (Some row) found own stops = by_own row (is_own call.caller row) found own stops
 
+-- an operation on the locks of an owner
+lock_named_here : (s : Seen) (stateid : StateRef) (row : LockRow) → lock_named s stateid ≡ Some row → lock_named_by (look s) stateid ≡ Some row
+unfolding lock_named lock_named_by look
+lock_named_here s Zeros row found = cc
+lock_named_here s Ones row found = cc
+lock_named_here s (Named id) row found = by_fs (id.fs == s.fs) found
+  where
+    by_fs : (b : Bool) → cond b (lock_at id.counter s.locks) None ≡ Some row → lock_at id.counter s.locks ≡ Some row
+    by_fs true here = here
+    by_fs false elsewhere = cc
+
+at_lock_turn : (s : Seen) (call : Call) (verdict : Verdict) (seqid : ℕ) (stateid : StateRef)
+    → (checks s call.caller call.file verdict call.deed).unresolved ≡ lock_unresolved call.caller (lock_named s stateid)
+    → (checks s call.caller call.file verdict call.deed).seqid ≡ lock_owner_stop_at s (lock_named s stateid) seqid call.caller call.file call.deed
+    → seqid_owner (look s) call.caller call.deed ≡ lock_owner_named (look s) stateid
+    → IsTurn s call verdict (lock_turn_at s (lock_named s stateid) seqid call.caller call.file call.deed)
+unfolding lock_turn_at lock_owner_stop_at advances
+at_lock_turn s call verdict seqid stateid unresolved stops its = by_row (lock_named s stateid) refl unresolved stops
+  where
+    c : Checks
+    c = checks s call.caller call.file verdict call.deed
+
+    bad : c.unresolved ≡ Some BadStateId → IsTurn s call verdict (Answered (reply_with BadStateId (refused_value call.deed)))
+    bad it = applied_before s call verdict BadStateId (first_unresolved c BadStateId it) refl
+
+    by_own : (row : LockRow) (b : Bool) → lock_named s stateid ≡ Some row → c.unresolved ≡ cond (not b) (Some BadStateId) None
+        → c.seqid ≡ owner_stop false (owner_at row.owner s.owners) seqid call.caller call.file call.deed
+        → IsTurn s call verdict (cond b (turn_by call.deed row.owner (owner_stop false (owner_at row.owner s.owners) seqid call.caller call.file call.deed)) (Answered (reply_with BadStateId (refused_value call.deed))))
+    by_own row true found own stops =
+        turn_of_stop s call verdict row.owner (owner_stop false (owner_at row.owner s.owners) seqid call.caller call.file call.deed) own stops
+        (stop_stays false (owner_at row.owner s.owners) seqid call.caller call.file call.deed)
+        (its ∙ ap (λ o. option_map (λ (r : LockRow). r.owner) o) (lock_named_here s stateid row found))
+    by_own row false found own stops = bad own
+
+    by_row : (o : Option LockRow) → lock_named s stateid ≡ o → c.unresolved ≡ lock_unresolved call.caller o
+        → c.seqid ≡ lock_owner_stop_at s o seqid call.caller call.file call.deed
+        → IsTurn s call verdict (lock_turn_at s o seqid call.caller call.file call.deed)
+    by_row None found own stops = bad own
+    by_row (Some row) found own stops = by_own row (is_own_lock call.caller row) found own stops
+
+unlock_turn_of : (s : Seen) (caller : Option Party) (file : ℕ) (args : UnlockArgs) (verdict : Verdict)
+    → IsTurn s (record { caller = caller; file = file; deed = deed.Unlock args }) verdict (lock_turn_at s (lock_named s args.stateid) args.seqid caller file (deed.Unlock args))
+unfolding unlock_checks seqid_owner
+unlock_turn_of s caller file args verdict = at_lock_turn s (record { caller = caller; file = file; deed = deed.Unlock args }) verdict args.seqid args.stateid refl refl refl
+
+known_turn_of : (s : Seen) (caller : Option Party) (file : ℕ) (args : LockArgs) (stateid : StateRef) (seqid : ℕ) (verdict : Verdict)
+    → IsTurn s (record { caller = caller; file = file; deed = deed.Lock (record args { locker = Known stateid seqid }) }) verdict
+    (lock_turn_at s (lock_named s stateid) seqid caller file (deed.Lock (record args { locker = Known stateid seqid })))
+unfolding lock_checks seqid_owner
+known_turn_of s caller file args stateid seqid verdict =
+    by_caller caller
+  where
+    by_caller : (its : Option Party) → IsTurn s (record { caller = its; file = file; deed = deed.Lock (record args { locker = Known stateid seqid }) }) verdict
+        (lock_turn_at s (lock_named s stateid) seqid its file (deed.Lock (record args { locker = Known stateid seqid })))
+    by_caller None = at_lock_turn s (record { caller = None; file = file; deed = deed.Lock (record args { locker = Known stateid seqid }) }) verdict seqid stateid refl refl refl
+    by_caller (Some party) = at_lock_turn s (record { caller = Some party; file = file; deed = deed.Lock (record args { locker = Known stateid seqid }) }) verdict seqid stateid refl refl refl
+
+-- a LOCK of an owner that comes as a new one
+newcomer_stays : (b : Bool) (o : Option Stop) → StopStays o → StopStays (option_or o (refusal (cond b (Some BadSeqid) None)))
+unfolding advances
+newcomer_stays true None stays = refl
+newcomer_stays false None stays = tt
+newcomer_stays b (Some (Refuse status)) stays = stays
+newcomer_stays b (Some (Repeat kept)) stays = tt
+
+turn_behind_is : (d : Deed) (owner : Owner) (newcomer : Option OpStatus) (o : Option Stop)
+    → turn_behind d newcomer (turn_by d owner o) ≡ turn_by d owner (option_or o (refusal newcomer))
+turn_behind_is d owner None None = refl
+turn_behind_is d owner (Some status) None = refl
+turn_behind_is d owner None (Some (Refuse status)) = refl
+turn_behind_is d owner None (Some (Repeat kept)) = refl
+turn_behind_is d owner (Some other) (Some (Refuse status)) = refl
+turn_behind_is d owner (Some other) (Some (Repeat kept)) = refl
+
+new_turn_of : (s : Seen) (file : ℕ) (args : LockArgs) (new : Newcomer) (verdict : Verdict)
+    → IsTurn s (record { caller = Some new.owner.instance; file = file; deed = deed.Lock (record args { locker = locker_of new }) }) verdict
+    (turn_behind (deed.Lock (record args { locker = locker_of new })) (newcomer_stop s (lock_owner new.owner.instance new.owner.text) file new.lock_seqid)
+    (turn_at s (resolved s new.stateid) new.open_seqid (Some new.owner.instance) file (deed.Lock (record args { locker = locker_of new }))))
+unfolding lock_checks seqid_owner turn_at owner_stop_at newcomer_stop advances
+new_turn_of s file args new verdict = by_row (resolved s new.stateid) refl refl refl
+  where
+    call : Call
+    call = record { caller = Some new.owner.instance; file = file; deed = deed.Lock (record args { locker = locker_of new }) }
+
+    c : Checks
+    c = checks s call.caller call.file verdict call.deed
+
+    newcomer : Option OpStatus
+    newcomer = newcomer_stop s (lock_owner new.owner.instance new.owner.text) file new.lock_seqid
+
+    its_stop : OpenRow → Option Stop
+    its_stop row = owner_stop false (owner_at row.owner s.owners) new.open_seqid call.caller file call.deed
+
+    bad : c.unresolved ≡ Some BadStateId → IsTurn s call verdict (Answered (reply_with BadStateId (refused_value call.deed)))
+    bad it = applied_before s call verdict BadStateId (first_unresolved c BadStateId it) refl
+
+    by_own : (row : OpenRow) (b : Bool) → resolved s new.stateid ≡ Some row → c.unresolved ≡ cond (not b) (Some BadStateId) None
+        → c.seqid ≡ option_or (its_stop row) (refusal newcomer)
+        → IsTurn s call verdict (turn_behind call.deed newcomer (cond b (turn_by call.deed row.owner (its_stop row)) (Answered (reply_with BadStateId (refused_value call.deed)))))
+    by_own row true found own stops =
+        subst (λ t. IsTurn s call verdict t) (sym (turn_behind_is call.deed row.owner newcomer (its_stop row)))
+        (turn_of_stop s call verdict row.owner (option_or (its_stop row) (refusal newcomer)) own stops
+        (newcomer_stays _ (its_stop row) (stop_stays false (owner_at row.owner s.owners) new.open_seqid call.caller file call.deed))
+        (ap (λ o. option_map (λ (r : OpenRow). r.owner) o) (named_resolved s new.stateid row found)))
+    by_own row false found own stops = bad own
+
+    by_row : (o : Option OpenRow) → resolved s new.stateid ≡ o → c.unresolved ≡ unresolved_at call.caller o
+        → c.seqid ≡ option_or (owner_stop_at s o new.open_seqid call.caller file call.deed) (refusal newcomer)
+        → IsTurn s call verdict (turn_behind call.deed newcomer (turn_at s o new.open_seqid call.caller file call.deed))
+    by_row None found own stops = bad own
+    by_row (Some row) found own stops = by_own row (is_own call.caller row) found own stops
+
 close_turn_of : (s : Seen) (caller : Option Party) (file : ℕ) (args : CloseArgs) (verdict : Verdict)
     → IsTurn s (record { caller = caller; file = file; deed = deed.Close args }) verdict (turn_at s (resolved s args.stateid) args.seqid caller file (deed.Close args))
 unfolding close_checks seqid_owner
@@ -220,6 +345,59 @@ pub downgrade_turn : (s : Seen) (call : Call) (args : OpenDowngradeArgs) (verdic
 downgrade_turn s call args verdict o t its asks row told is =
     turn_as s call _ verdict o args.stateid args.seqid t its (downgrade_turn_of s call.caller call.file args verdict) (call_is call (deed.OpenDowngrade args) asks) row told is
 
+lock_turn_as : (s : Seen) (call other : Call) (verdict : Verdict) (o : Option LockRow) (stateid : StateRef) (seqid : ℕ) (t its : Turn)
+    → IsTurn s other verdict (lock_turn_at s (lock_named s stateid) seqid other.caller other.file other.deed)
+    → other ≡ call → o ≡ lock_named s stateid → t ≡ lock_turn_at s o seqid call.caller call.file call.deed → t ≡ its → IsTurn s call verdict its
+lock_turn_as s call other verdict o stateid seqid t its turn same row told is =
+    subst (λ x. IsTurn s call verdict x) (ap (λ r. lock_turn_at s r seqid call.caller call.file call.deed) (sym row) ∙ sym told ∙ is)
+    (subst (λ q. IsTurn s q verdict (lock_turn_at s (lock_named s stateid) seqid q.caller q.file q.deed)) same turn)
+
+pub unlock_turn : (s : Seen) (call : Call) (args : UnlockArgs) (verdict : Verdict) (o : Option LockRow) (t its : Turn) → call.deed ≡ deed.Unlock args
+    → o ≡ lock_named s args.stateid → t ≡ lock_turn_at s o args.seqid call.caller call.file call.deed → t ≡ its → IsTurn s call verdict its
+unlock_turn s call args verdict o t its asks row told is =
+    lock_turn_as s call _ verdict o args.stateid args.seqid t its (unlock_turn_of s call.caller call.file args verdict) (call_is call (deed.Unlock args) asks) row told is
+
+pub known_is : (call : Call) (args : LockArgs) (stateid : StateRef) (seqid : ℕ) → Locks call args stateid seqid
+    → record { caller = call.caller; file = call.file; deed = deed.Lock (record args { locker = Known stateid seqid }) } ≡ call
+known_is call args stateid seqid locks =
+    let same : record args { locker = Known stateid seqid } ≡ args = λ i. record args { locker = sym locks.locker i } in
+    call_is call (deed.Lock (record args { locker = Known stateid seqid })) (locks.asks ∙ ap deed.Lock (sym same))
+
+pub known_turn : (s : Seen) (call : Call) (args : LockArgs) (stateid : StateRef) (seqid : ℕ) (verdict : Verdict) (o : Option LockRow) (t its : Turn) → Locks call args stateid seqid
+    → o ≡ lock_named s stateid → t ≡ lock_turn_at s o seqid call.caller call.file call.deed → t ≡ its → IsTurn s call verdict its
+known_turn s call args stateid seqid verdict o t its locks row told is =
+    lock_turn_as s call _ verdict o stateid seqid t its (known_turn_of s call.caller call.file args stateid seqid verdict) (known_is call args stateid seqid locks) row told is
+
+pub comes_is : (call : Call) (args : LockArgs) (new : Newcomer) → Comes call args new
+    → record { caller = Some new.owner.instance; file = call.file; deed = deed.Lock (record args { locker = locker_of new }) } ≡ call
+comes_is call args new comes =
+    let same : record args { locker = locker_of new } ≡ args = λ i. record args { locker = sym comes.locker i } in
+    open_is call new.owner.instance (deed.Lock (record args { locker = locker_of new })) comes.caller (comes.asks ∙ ap deed.Lock (sym same))
+
+pub new_turn : (s : Seen) (call : Call) (args : LockArgs) (new : Newcomer) (verdict : Verdict) (t its : Turn) → Comes call args new
+    → t ≡ turn_to_lock s new.owner.instance call.file args new → t ≡ its → IsTurn s call verdict its
+unfolding turn_to_lock
+new_turn s call args new verdict t its comes told is =
+    let same : record args { locker = locker_of new } ≡ args = λ i. record args { locker = sym comes.locker i } in
+    subst (λ x. IsTurn s call verdict x)
+    (ap (λ a. turn_behind (deed.Lock a) (newcomer_stop s (lock_owner new.owner.instance new.owner.text) call.file new.lock_seqid)
+    (turn_at s (resolved s new.stateid) new.open_seqid (Some new.owner.instance) call.file (deed.Lock a))) same ∙ sym told ∙ is)
+    (subst (λ q. IsTurn s q verdict (turn_behind (deed.Lock (record args { locker = locker_of new })) (newcomer_stop s (lock_owner new.owner.instance new.owner.text) call.file new.lock_seqid)
+    (turn_at s (resolved s new.stateid) new.open_seqid (Some new.owner.instance) call.file (deed.Lock (record args { locker = locker_of new })))))
+    (comes_is call args new comes) (new_turn_of s call.file args new verdict))
+
+-- a LOCK of a new lock owner that names no caller
+pub nobody_locks : (s : Seen) (call : Call) (args : LockArgs) (verdict : Verdict) (open_seqid : ℕ) (stateid : StateRef) (lock_seqid : ℕ) (text : List ℕ)
+    → call.caller ≡ None → call.deed ≡ deed.Lock args → args.locker ≡ New open_seqid stateid lock_seqid text
+    → Applied s (Asked call verdict) (reply_with BadStateId (told.Lock None)) s
+unfolding lock_checks advances
+nobody_locks s call args verdict open_seqid stateid lock_seqid text caller asks locker =
+    let its : LockArgs = record args { locker = New open_seqid stateid lock_seqid text } in
+    let same : its ≡ args = λ i. record args { locker = sym locker i } in
+    subst (λ q. Applied s (Asked q verdict) (reply_with BadStateId (told.Lock None)) s)
+    (λ i. record { caller = sym caller i; file = call.file; deed = sym (asks ∙ ap deed.Lock (sym same)) i })
+    (applied_before s (record { caller = None; file = call.file; deed = deed.Lock its }) verdict BadStateId refl refl)
+
 pub open_turn : (s : Seen) (call : Call) (party : Party) (args : OpenArgs) (verdict : Verdict) (t its : Turn) → call.caller ≡ Some party → call.deed ≡ deed.Open args
     → t ≡ turn_to_open s party call.file args → t ≡ its → IsTurn s call verdict its
 open_turn s call party args verdict t its caller asks told is =
@@ -270,98 +448,121 @@ is_its_turn : (s : Seen) (call : Call) (verdict : Verdict) → Passes (checks s 
 is_its_turn s call verdict passes =
     subst (λ o. SeqidTells o (judgement (look s) call)) passes.seqid (seqid_tells s call.caller call.file verdict call.deed passes.unresolved)
 
--- a refusal has no words
-refused_words : (n : Now) (caller : Option Party) (file : ℕ) (d : Deed) → deed_words n caller file d (refused_value d) ≡ no_words
-unfolding set_tree is_empty
-refused_words n caller file (deed.Access _) = refl
-refused_words n caller file (deed.Close _) = refl
-refused_words n caller file (deed.Commit _) = refl
-refused_words n caller file (deed.Create _) = refl
-refused_words n caller file (deed.GetAttr _) = refl
-refused_words n caller file (deed.Lookup _) = refl
-refused_words n caller file deed.LookupP = refl
-refused_words n None file (deed.Open _) = refl
-refused_words n (Some party) file (deed.Open _) = refl
-refused_words n caller file (deed.OpenConfirm _) = refl
-refused_words n caller file (deed.OpenDowngrade _) = refl
-refused_words n caller file (deed.Read _) = refl
-refused_words n caller file (deed.ReadDir _) = refl
-refused_words n caller file (deed.Remove _) = refl
-refused_words n caller file (deed.SetAttr _) = refl
-refused_words n caller file (deed.Write _) = refl
+-- a refusal has no words, closes nothing, and starts nobody
+record SaysNothing (n : Now) (call : Call) (r : Reply) (d : Deed) (value : ReplyValue) : Type 0 where
+  pub changes : (caller : Option Party) (file : ℕ) → deed_words n caller file d value ≡ no_words
+  pub closes : None ≡ closed_by n d value
+  pub starts : Stays ≡ started_by n call r d value
 
-pub nothing_left : (s : Seen) (call : Call) → s ≡ after_words s (with_owners (deed_words (look s) call.caller call.file call.deed (refused_value call.deed)) Stays)
-nothing_left s call =
-    sym (ap (λ w. after_words s (with_owners w Stays)) (refused_words (look s) call.caller call.file call.deed) ∙ same-after s)
-
--- and closes nothing
-pub none_closed : (s : Seen) (call : Call) → None ≡ closed_by (look s) call.deed (refused_value call.deed)
-unfolding closed_by
-none_closed s call = by_deed call.deed
+refused_says : (n : Now) (call : Call) (r : Reply) (d : Deed) → SaysNothing n call r d (refused_value d)
+unfolding set_tree is_empty closed_by started_by
+refused_says n call r (deed.Access _) = record { changes = λ caller file. refl; closes = refl; starts = refl }
+refused_says n call r (deed.Close _) = record { changes = λ caller file. refl; closes = refl; starts = refl }
+refused_says n call r (deed.Commit _) = record { changes = λ caller file. refl; closes = refl; starts = refl }
+refused_says n call r (deed.Create _) = record { changes = λ caller file. refl; closes = refl; starts = refl }
+refused_says n call r (deed.GetAttr _) = record { changes = λ caller file. refl; closes = refl; starts = refl }
+refused_says n call r (deed.Lock _) = record { changes = λ caller file. refl; closes = refl; starts = refl }
+refused_says n call r (deed.LockTest _) = record { changes = λ caller file. refl; closes = refl; starts = refl }
+refused_says n call r (deed.Lookup _) = record { changes = λ caller file. refl; closes = refl; starts = refl }
+refused_says n call r deed.LookupP = record { changes = λ caller file. refl; closes = refl; starts = refl }
+refused_says n call r (deed.Open args) = record { changes = by_caller; closes = refl; starts = refl }
   where
-    by_deed : (d : Deed) → None ≡ closed_by (look s) d (refused_value d)
-    by_deed (deed.Access _) = refl
-    by_deed (deed.Close _) = refl
-    by_deed (deed.Commit _) = refl
-    by_deed (deed.Create _) = refl
-    by_deed (deed.GetAttr _) = refl
-    by_deed (deed.Lookup _) = refl
-    by_deed deed.LookupP = refl
-    by_deed (deed.Open _) = refl
-    by_deed (deed.OpenConfirm _) = refl
-    by_deed (deed.OpenDowngrade _) = refl
-    by_deed (deed.Read _) = refl
-    by_deed (deed.ReadDir _) = refl
-    by_deed (deed.Remove _) = refl
-    by_deed (deed.SetAttr _) = refl
-    by_deed (deed.Write _) = refl
+    by_caller : (caller : Option Party) (file : ℕ) → deed_words n caller file (deed.Open args) (told.Open None) ≡ no_words
+    by_caller None file = refl
+    by_caller (Some party) file = refl
+refused_says n call r (deed.OpenConfirm _) = record { changes = λ caller file. refl; closes = refl; starts = refl }
+refused_says n call r (deed.OpenDowngrade _) = record { changes = λ caller file. refl; closes = refl; starts = refl }
+refused_says n call r (deed.Read _) = record { changes = λ caller file. refl; closes = refl; starts = refl }
+refused_says n call r (deed.ReadDir _) = record { changes = λ caller file. refl; closes = refl; starts = refl }
+refused_says n call r (deed.ReleaseLockOwner _) = record { changes = λ caller file. refl; closes = refl; starts = refl }
+refused_says n call r (deed.Remove _) = record { changes = λ caller file. refl; closes = refl; starts = refl }
+refused_says n call r (deed.SetAttr _) = record { changes = λ caller file. refl; closes = refl; starts = refl }
+refused_says n call r (deed.Unlock _) = record { changes = λ caller file. refl; closes = refl; starts = refl }
+refused_says n call r (deed.Write _) = record { changes = λ caller file. refl; closes = refl; starts = refl }
+
+denial_says : (n : Now) (call : Call) (r : Reply) (args : LockArgs) (o : Option Denied) → SaysNothing n call r (deed.Lock args) (told.Lock (option_map IsDenied o))
+unfolding closed_by started_by
+denial_says n call r args None = record { changes = λ caller file. refl; closes = refl; starts = refl }
+denial_says n call r args (Some denied) = record { changes = λ caller file. refl; closes = refl; starts = refl }
+
+test_says : (n : Now) (call : Call) (r : Reply) (args : LockTestArgs) (o : Option Denied) → SaysNothing n call r (deed.LockTest args) (told.LockTest o)
+unfolding closed_by started_by
+test_says n call r args o = record { changes = λ caller file. refl; closes = refl; starts = refl }
+
+refusal_says : (s : Seen) (call : Call) (r : Reply) (status : OpStatus) → SaysNothing (look s) call r call.deed (refusal_value s call.caller call.file call.deed status)
+refusal_says s call r status = by_refusal (λ d value. SaysNothing (look s) call r d value)
+    (refused_says (look s) call r) (denial_says (look s) call r) (test_says (look s) call r) s call.caller call.file call.deed status
+
+-- an operation that a class behind the seqid refuses
+pub went_refused_as : (s : Seen) (call : Call) (verdict : Verdict) (status : OpStatus) → Some status ≡ behind_seqid (checks s call.caller call.file verdict call.deed)
+    → Went s call verdict (reply_by s call (Some (Refuse status))) None Stays s
+went_refused_as s call verdict status stops =
+    let r : Reply = reply_by s call (Some (Refuse status)) in
+    let says = refusal_says s call r status in
+    record {
+    answer = ap (λ x. reply_by s call (refusal x)) stops;
+    tables = sym (ap (λ w. after_words s (with_owners w Stays Stays)) (says.changes call.caller call.file) ∙ same-after s);
+    closed = says.closes;
+    started = says.starts;
+    }
 
 either_way : {A : Type 0} (b : Bool) (x y : A) → x ≡ y → cond b x y ≡ x
 either_way true x y same = refl
 either_way false x y same = sym same
 
 -- so it doesn't matter whether it is done
-words_behind : (s : Seen) (call : Call) (x : Option OpStatus)
-    → cond (is_done (reply_by s call (refusal x)).status) (deed_words (look s) call.caller call.file call.deed (reply_by s call (refusal x)).value) no_words
-    ≡ deed_words (look s) call.caller call.file call.deed (reply_by s call (refusal x)).value
-unfolding is_done
-words_behind s call None = refl
-words_behind s call (Some status) = either_way (is_done status) _ no_words (refused_words (look s) call.caller call.file call.deed)
+record DoneOrNot (s : Seen) (call : Call) (r : Reply) : Type 0 where
+  pub changes : cond (is_done r.status) (deed_words (look s) call.caller call.file call.deed r.value) no_words ≡ deed_words (look s) call.caller call.file call.deed r.value
+  pub starts : cond (is_done r.status) (started_by (look s) call r call.deed r.value) Stays ≡ started_by (look s) call r call.deed r.value
 
-applied_noted : (s : Seen) (call : Call) (verdict : Verdict) (owner : Owner) (r : Reply) (closed : Option OpenRow) (mid : Seen)
-    → IsTurn s call verdict (Of owner) → Went s call verdict r closed mid
-    → Applied s (Asked call verdict) r (after_noting (note_word s owner call r closed) mid)
+words_behind : (s : Seen) (call : Call) (x : Option OpStatus) → DoneOrNot s call (reply_by s call (refusal x))
+unfolding is_done
+words_behind s call None = record { changes = refl; starts = refl }
+words_behind s call (Some status) =
+    let r : Reply = reply_by s call (Some (Refuse status)) in
+    let says = refusal_says s call r status in
+    record {
+    changes = either_way (is_done status) _ no_words (says.changes call.caller call.file);
+    starts = either_way (is_done status) _ Stays (sym says.starts);
+    }
+
+applied_noted : (s : Seen) (call : Call) (verdict : Verdict) (owner : Owner) (r : Reply) (closed : Option OpenRow) (start : OwnerWord) (mid : Seen)
+    → IsTurn s call verdict (Of owner) → Went s call verdict r closed start mid
+    → Applied s (Asked call verdict) r (after_noting start (after_noting (note_word s owner call r closed) mid))
 unfolding words noted note_word look after_noting after_words owners_after closed_after
-applied_noted s call verdict owner r closed mid turn went = record {
+applied_noted s call verdict owner r closed start mid turn went = record {
   answer = told_behind s call verdict owner r turn went.answer;
-  tables = ap (after_noting (note_word s owner call r closed)) went.tables
-      ∙ notes done (note_word s owner call r closed)
-      ∙ ap (λ o. after_words s (with_owners done (note_word s owner call r o))) went.closed
+  tables = ap (λ m. after_noting start (after_noting (note_word s owner call r closed) m)) went.tables
+      ∙ notes done (note_word s owner call r closed) start
+      ∙ ap (λ o. after_words s (with_owners done (note_word s owner call r o) start)) went.closed
+      ∙ ap (λ x. after_words s (with_owners done (note_word s owner call r (closed_by (look s) call.deed r.value)) x)) went.started
       ∙ ap (after_words s) (sym its_words);
 }
   where
     done : Words
     done = deed_words (look s) call.caller call.file call.deed r.value
 
-    notes : (w : Words) (word : OwnerWord) → after_noting word (after_words s (with_owners w Stays)) ≡ after_words s (with_owners w word)
-    notes w word = refl
+    notes : (w : Words) (word its : OwnerWord) → after_noting its (after_noting word (after_words s (with_owners w Stays Stays))) ≡ after_words s (with_owners w word its)
+    notes w word its = refl
 
-    acted : cond (is_done r.status) done no_words ≡ done
-    acted = subst (λ (q : Reply). cond (is_done q.status) (deed_words (look s) call.caller call.file call.deed q.value) no_words ≡ deed_words (look s) call.caller call.file call.deed q.value)
-        (sym went.answer) (words_behind s call (behind_seqid (checks s call.caller call.file verdict call.deed)))
+    same : DoneOrNot s call r
+    same = subst (λ (q : Reply). DoneOrNot s call q) (sym went.answer) (words_behind s call (behind_seqid (checks s call.caller call.file verdict call.deed)))
 
-    its_words : words (look s) (Asked call verdict) r ≡ with_owners done (note_word s owner call r (closed_by (look s) call.deed r.value))
-    its_words = rw (is_its_turn s call verdict turn.0, turn.1) (ap (λ w. with_owners w (note_word s owner call r (closed_by (look s) call.deed r.value))) acted)
+    its_words : words (look s) (Asked call verdict) r
+        ≡ with_owners done (note_word s owner call r (closed_by (look s) call.deed r.value)) (started_by (look s) call r call.deed r.value)
+    its_words = rw (is_its_turn s call verdict turn.0, turn.1)
+        (ap (λ w. with_owners w (note_word s owner call r (closed_by (look s) call.deed r.value)) (cond (is_done r.status) (started_by (look s) call r call.deed r.value) Stays)) same.changes
+        ∙ ap (λ x. with_owners done (note_word s owner call r (closed_by (look s) call.deed r.value)) x) same.starts)
 
 -- by the call as it came, and the owners as they were then
 pub noted_as : (s : Seen) (call other : Call) (verdict : Verdict) (owner : Owner) (r : Reply) (closed : Option OpenRow) (mid new : Seen)
-    → other ≡ call → IsTurn s call verdict (Of owner) → Went s other verdict r closed mid → new ≡ after_noting (note_word mid owner call r closed) mid
+    → other ≡ call → IsTurn s call verdict (Of owner) → Went s other verdict r closed Stays mid → new ≡ after_noting (note_word mid owner call r closed) mid
     → Applied s (Asked call verdict) r new
-unfolding after_words owners_after note_word
+unfolding after_words owners_after closed_after note_word after_noting
 noted_as s call other verdict owner r closed mid new same turn went noted =
-    let its : Went s call verdict r closed mid = subst (λ q. Went s q verdict r closed mid) same went in
+    let its : Went s call verdict r closed Stays mid = subst (λ q. Went s q verdict r closed Stays mid) same went in
     let kept : note_word mid owner call r closed ≡ note_word s owner call r closed = ap (λ (m : Seen). note_word m owner call r closed) its.tables in
-    subst (λ x. Applied s (Asked call verdict) r x) (sym (noted ∙ ap (λ w. after_noting w mid) kept)) (applied_noted s call verdict owner r closed mid turn its)
+    subst (λ x. Applied s (Asked call verdict) r x) (sym (noted ∙ ap (λ w. after_noting w mid) kept)) (applied_noted s call verdict owner r closed Stays mid turn its)
 
 pub told_as : (s : Seen) (call other : Call) (verdict : Verdict) (owner : Owner) (r : Reply)
     → other ≡ call → IsTurn s call verdict (Of owner) → r ≡ reply_behind s other verdict → r ≡ answer_to s (Asked call verdict)

@@ -7,7 +7,9 @@ use Rattle.nm_rules.specs.Checks.{Checks, Stop, behind_seqid, first, refusal}
 use Rattle.nm_rules.specs.Contents.{file_at, tree_after}
 use Rattle.nm_rules.specs.Opens.{changed_stateid, close_checks, confirm_checks, downgrade_checks, file_to_open, is_narrower, next_stateid, open_checks, open_value, row_to_open, target}
 use Rattle.nm_rules.specs.Parties.{Party}
-use Rattle.nm_rules.specs.Past.{claimed_name, closed_by, deed_words, open_tree, opener, with_owners}
+use Rattle.nm_rules.specs.LockRows.{locks_after, ranges_after}
+use Rattle.nm_rules.specs.LockRows.LockWord.{ClosedWith}
+use Rattle.nm_rules.specs.Past.{claimed_name, closed_by, deed_words, open_tree, opener, started_by, with_owners}
 use Rattle.nm_rules.specs.Seen.{Seen, after_words, look}
 use Rattle.nm_rules.specs.Seqids.{closed_after, owners_after}
 use Rattle.nm_rules.specs.Seqids.OwnerWord.{Stays}
@@ -34,28 +36,29 @@ use Rattle.nm_rules.proofs.Classes.{or_none, refuse_if-none}
 use Rattle.nm_rules.proofs.Legal.{claimed_is_target, drew_new, named_is_live, same_row}
 use Rattle.nm_shares.specs.Rows.{downgrade_answer, last_after, renewed_state, row_to_take}
 use Rattle.nm_shares.specs.declared.state.State.{State}
+use Rattle.nm_state.specs.Locking.{after_locks}
 use Rattle.nm_state.specs.Opening.{after_open, after_opens, after_taking, after_word, open_word}
 use Rattle.nm_state.specs.Turns.{Went, reply_behind}
-use Rattle.nm_state.proofs.TurnLemmas.{nothing_left, none_closed}
+use Rattle.nm_state.proofs.OpeningLemmas.{is_plain, plain_refusal}
+use Rattle.nm_state.proofs.TurnLemmas.{went_refused_as}
 
 -- ---- refusals
 
 -- an operation that a class behind the seqid refuses
-pub went_refused : (s : Seen) (call : Call) (verdict : Verdict) (status : OpStatus) → Some status ≡ behind_seqid (checks s call.caller call.file verdict call.deed)
-    → Went s call verdict (reply_with status (refused_value call.deed)) None s
-went_refused s call verdict status stops = record {
-  answer = ap (λ x. reply_by s call (refusal x)) stops;
-  tables = nothing_left s call;
-  closed = none_closed s call;
-}
+pub went_refused : (s : Seen) (call : Call) (verdict : Verdict) (status : OpStatus) → is_plain call.deed ≡ true
+    → Some status ≡ behind_seqid (checks s call.caller call.file verdict call.deed)
+    → Went s call verdict (reply_with status (refused_value call.deed)) None Stays s
+went_refused s call verdict status plain stops =
+    subst (λ v. Went s call verdict (reply_with status v) None Stays s) (plain_refusal s call.caller call.file call.deed status plain)
+    (went_refused_as s call verdict status stops)
 
 -- ---- OPEN
 
 -- An OPEN that nothing stops leaves its file and its open.
 leaves_open : (s : Seen) (party : Party) (file : ℕ) (args : OpenArgs) → rises 0 s.last s.opens ≡ true
     → after_open s party file args
-    ≡ after_words s (with_owners (deed_words (look s) (Some party) file (deed.Open args) (told.Open (open_value s (Some party) file args))) Stays)
-unfolding after_words opens_after owners_after closed_after look open_value row_to_open row_to_take last_after after_taking after_word open_word after_open
+    ≡ after_words s (with_owners (deed_words (look s) (Some party) file (deed.Open args) (told.Open (open_value s (Some party) file args))) Stays Stays)
+unfolding after_words opens_after owners_after closed_after locks_after ranges_after look open_value row_to_open row_to_take last_after after_taking after_word open_word after_open
 leaves_open s party file args rising =
     let owner : Owner = opener party args in
     let its_file : ℕ = file_to_open s file args in
@@ -69,6 +72,8 @@ leaves_open s party file args rising =
       opens = put_open (same i) s.opens;
       owners = s.owners;
       closed = s.closed;
+      locks = s.locks;
+      ranges = s.ranges;
       last = cond (drew i) (s.last + 1) s.last;
     }
 
@@ -80,12 +85,13 @@ told_open s party file args verdict opened goes value =
 
 pub went_open : (s : Seen) (party : Party) (file : ℕ) (args : OpenArgs) (verdict : Verdict) (opened : Opened) → rises 0 s.last s.opens ≡ true
     → None ≡ behind_seqid (open_checks s (Some party) file args verdict) → Some opened ≡ open_value s (Some party) file args
-    → Went s (record { caller = Some party; file = file; deed = deed.Open args }) verdict (reply_with Nfs4Ok (told.Open (Some opened))) None (after_open s party file args)
-unfolding closed_by
+    → Went s (record { caller = Some party; file = file; deed = deed.Open args }) verdict (reply_with Nfs4Ok (told.Open (Some opened))) None Stays (after_open s party file args)
+unfolding closed_by started_by
 went_open s party file args verdict opened rising goes value = record {
   answer = told_open s party file args verdict opened goes value;
-  tables = leaves_open s party file args rising ∙ ap (λ v. after_words s (with_owners (deed_words (look s) (Some party) file (deed.Open args) (told.Open v)) Stays)) (sym value);
+  tables = leaves_open s party file args rising ∙ ap (λ v. after_words s (with_owners (deed_words (look s) (Some party) file (deed.Open args) (told.Open v)) Stays Stays)) (sym value);
   closed = refl;
+  started = refl;
 }
 
 -- ---- CLOSE, OPEN_CONFIRM and OPEN_DOWNGRADE
@@ -176,12 +182,14 @@ told_close s caller file args verdict id goes value =
 pub went_close : (s : Seen) (caller : Option Party) (file : ℕ) (args : CloseArgs) (verdict : Verdict) (id : StateId) (row : OpenRow)
     → None ≡ behind_seqid (close_checks s caller file args verdict) → changed_stateid s args.stateid ≡ Some id
     → Some row ≡ option_map renewed_row (open_at id.counter s.opens)
-    → Went s (record { caller = caller; file = file; deed = deed.Close args }) verdict (reply_with Nfs4Ok (told.Close (Some id))) (Some row) (after_opens (Drop id.counter) s)
-unfolding after_words tree_after owners_after closed_after after_opens closed_by look
+    → Went s (record { caller = caller; file = file; deed = deed.Close args }) verdict (reply_with Nfs4Ok (told.Close (Some id))) (Some row) Stays
+    (after_locks (ClosedWith id.counter) (after_opens (Drop id.counter) s))
+unfolding after_words tree_after owners_after closed_after after_opens after_locks closed_by started_by look
 went_close s caller file args verdict id row goes value its = record {
   answer = told_close s caller file args verdict id goes value;
   tables = refl;
   closed = its;
+  started = refl;
 }
 
 pub told_confirm : (s : Seen) (caller : Option Party) (file : ℕ) (args : OpenConfirmArgs) (verdict : Verdict) (id : StateId)
@@ -192,13 +200,14 @@ told_confirm s caller file args verdict id goes value =
 
 pub went_confirm : (s : Seen) (caller : Option Party) (file : ℕ) (args : OpenConfirmArgs) (verdict : Verdict) (id : StateId)
     → None ≡ behind_seqid (confirm_checks s caller file args verdict) → changed_stateid s args.stateid ≡ Some id
-    → Went s (record { caller = caller; file = file; deed = deed.OpenConfirm args }) verdict (reply_with Nfs4Ok (told.OpenConfirm (Some id))) None
+    → Went s (record { caller = caller; file = file; deed = deed.OpenConfirm args }) verdict (reply_with Nfs4Ok (told.OpenConfirm (Some id))) None Stays
     (after_opens (put_if (option_map renewed_row (open_at id.counter s.opens))) s)
-unfolding after_words tree_after owners_after closed_after after_opens closed_by look
+unfolding after_words tree_after owners_after closed_after locks_after ranges_after after_opens closed_by started_by look
 went_confirm s caller file args verdict id goes value = record {
   answer = told_confirm s caller file args verdict id goes value;
   tables = refl;
   closed = refl;
+  started = refl;
 }
 
 pub told_downgrade : (s : Seen) (caller : Option Party) (file : ℕ) (args : OpenDowngradeArgs) (verdict : Verdict) (id : StateId)
@@ -209,11 +218,12 @@ told_downgrade s caller file args verdict id goes value =
 
 pub went_downgrade : (s : Seen) (caller : Option Party) (file : ℕ) (args : OpenDowngradeArgs) (verdict : Verdict) (id : StateId)
     → None ≡ behind_seqid (downgrade_checks s caller file args verdict) → changed_stateid s args.stateid ≡ Some id
-    → Went s (record { caller = caller; file = file; deed = deed.OpenDowngrade args }) verdict (reply_with Nfs4Ok (told.OpenDowngrade (Some id))) None
+    → Went s (record { caller = caller; file = file; deed = deed.OpenDowngrade args }) verdict (reply_with Nfs4Ok (told.OpenDowngrade (Some id))) None Stays
     (after_opens (put_if (option_map (narrowed_row args.access args.deny) (open_at id.counter s.opens))) s)
-unfolding after_words tree_after owners_after closed_after after_opens closed_by look
+unfolding after_words tree_after owners_after closed_after locks_after ranges_after after_opens closed_by started_by look
 went_downgrade s caller file args verdict id goes value = record {
   answer = told_downgrade s caller file args verdict id goes value;
   tables = refl;
   closed = refl;
+  started = refl;
 }

@@ -2,8 +2,10 @@
 use Rattle.std.specs.Prelude.{◌≡◌, ◌<◌, ◌≤◌, ◌-◌, ◌^◌, ℕ}
 use Rattle.nm_rules.specs.Parties.{Party}
 use Rattle.nm_rules.specs.Contents.{TreeNow, TreeWord, file_at, size_limit, total_limit, total_size, tree_after}
+use Rattle.nm_rules.specs.LockRows.{locks_after, ranges_after}
+use Rattle.nm_rules.specs.LockRows.LockWord.{EndedOf, Released}
 use Rattle.nm_rules.specs.Seqids.{closed_after, owners_after}
-use Rattle.nm_rules.specs.Seqids.OwnerWord.{GoneOf}
+use Rattle.nm_rules.specs.Seqids.OwnerWord.{Gone, GoneOf}
 use Rattle.nm_rules.specs.Shares.{OpenWord, put_open, opens_after}
 use Rattle.nm_rules.specs.Shares.OpenWord.{DropOf}
 use Rattle.nm_rules.specs.Past.{claimed_name, opener, open_tree}
@@ -45,6 +47,17 @@ after_end s party = record s {
   opens = opens_after (DropOf party) s.opens;
   owners = owners_after (GoneOf party) s.owners;
   closed = closed_after (GoneOf party) s.closed;
+  locks = locks_after (EndedOf party) s.locks;
+  ranges = ranges_after (EndedOf party) s.locks s.ranges;
+}
+
+-- the release of a lock owner
+unfoldable pub after_release : Owner → Seen → Seen
+after_release owner s = record s {
+  owners = owners_after (Gone owner) s.owners;
+  closed = closed_after (Gone owner) s.closed;
+  locks = locks_after (Released owner) s.locks;
+  ranges = ranges_after (Released owner) s.locks s.ranges;
 }
 
 -- The reply is the answer to the event, and the tables are those after it.

@@ -1,17 +1,21 @@
 //! CLOSE (RFC 7530, 16.2).
-ghost use Rattle.std.specs.Prelude.{◌≡◌, Some, IfOk, IsSome, option_map};
+ghost use Rattle.std.specs.Prelude.{◌≡◌, Some, IfOk, IsSome, option_copied, option_map};
 ghost use Rattle.nm_rules.specs.Answer.{answer_to};
 ghost use Rattle.nm_rules.specs.Checks.{behind_seqid};
-ghost use Rattle.nm_rules.specs.Opens.{changed_stateid, close_checks};
+ghost use Rattle.nm_rules.specs.LockRows.LockWord.{ClosedWith};
+ghost use Rattle.nm_rules.specs.Opens.{changed_stateid, close_checks, locks_stop};
 ghost use Rattle.nm_rules.specs.Shares.{open_at, renewed_row};
 ghost use Rattle.nm_rules.specs.Shares.OpenWord.{Drop as DropOpen};
 ghost use Rattle.nm_rules.specs.Stateids.{open_named};
 ghost use Rattle.nm_rules.specs.declared.calls.Deed.TheVariants.{Close as CloseDeed};
+ghost use Rattle.nm_rules.specs.Seqids.OwnerWord.{Stays};
 ghost use Rattle.nm_rules.specs.declared.calls.Event.TheVariants.{Asked as AskedEvent};
+ghost use Rattle.nm_state.specs.Locking.{after_locks};
 ghost use Rattle.nm_state.specs.Opening.{Applied, after_opens};
 ghost use Rattle.nm_state.specs.Turns.{Went, reply_behind};
 
 use crate::checks::{lease_refusal, refuse_if};
+use crate::lock_rows;
 use crate::seqids::Turn;
 use crate::tables::Tables;
 use nm_rules::{
@@ -20,6 +24,19 @@ use nm_rules::{
 use nm_shares::seqid_after;
 
 impl Tables {
+    // An open whose lock owners hold something isn't closed.
+    fn locks_stop(&self, row: Option<&OpenRow>) -> Option<OpStatus>
+        ensures { result ≡ locks_stop self.now (option_copied row.entry) }
+    {
+        match row {
+            None => None,
+            Some(row) => {
+                let idle = lock_rows::are_idle_with(&self.locks, &self.ranges, row.counter);
+                refuse_if(!idle, OpStatus::LocksHeld)
+            }
+        }
+    }
+
     // The first class behind the seqid that refuses a CLOSE.
     #[tactic(auto, unfolding(nm_rules::specs::Opens::close_checks))]
     fn close_stop(&self, call: &Call, args: &CloseArgs, verdict: Verdict) -> Option<OpStatus>
@@ -34,7 +51,11 @@ impl Tables {
         if let Some(status) = refuse_if(self.is_dir(call.file), OpStatus::IsDir) {
             return Some(status);
         }
-        self.live_stop(call.file, args.stateid, 0, self.open_named(args.stateid))
+        let live = self.live_stop(call.file, args.stateid, 0, self.open_named(args.stateid));
+        if let Some(status) = live {
+            return Some(status);
+        }
+        self.locks_stop(self.open_named(args.stateid))
     }
 
     /// The stateid of a live open with its next seqid, as it is told where it is changed.
@@ -79,13 +100,14 @@ impl Tables {
         }
     }
 
-    // Closes a live open.
-    #[tactic(auto, unfolding(crate::specs::Opening::after_opens))]
+    // Closes a live open. The stateids of its lock owners go.
+    #[tactic(auto, unfolding(crate::specs::Opening::after_opens, crate::specs::Locking::after_locks, nm_rules::specs::LockRows::locks_after, nm_rules::specs::LockRows::ranges_after))]
     fn drop_open(&mut self, counter: u64)
         requires { IsSome (open_at counter self.old.opens) }
-        ensures { self.new ≡ after_opens (DropOpen counter) self.old }
+        ensures { self.new ≡ after_locks (ClosedWith counter) (after_opens (DropOpen counter) self.old) }
     {
         self.shares.close(counter);
+        lock_rows::drop_opened(&mut self.locks, counter);
     }
 
     // What a CLOSE whose turn it is does: the reply, and the open that it closed.
@@ -95,7 +117,7 @@ impl Tables {
         args: &CloseArgs,
         verdict: Verdict,
     ) -> Result<(Reply, Option<OpenRow>), Memory>
-        ensures { IfOk result (λ went. Went self.old (record { caller = call.now.caller; file = call.now.file; deed = CloseDeed args.now }) verdict went.0 went.1 self.new) }
+        ensures { IfOk result (λ went. Went self.old (record { caller = call.now.caller; file = call.now.file; deed = CloseDeed args.now }) verdict went.0 went.1 Stays self.new) }
     {
         if let Some(status) = self.close_stop(call, args, verdict) {
             return Ok((self.reply(status, ReplyValue::Close(None)), None));

@@ -5,6 +5,7 @@ ghost use Rattle.nm_rules.specs.Checks.{behind_seqid};
 ghost use Rattle.nm_rules.specs.Opens.{confirm_checks, downgrade_checks, is_narrower};
 ghost use Rattle.nm_rules.specs.Shares.{narrowed_row, open_at, put_if, renewed_row};
 ghost use Rattle.nm_rules.specs.declared.calls.Deed.TheVariants.{OpenConfirm as ConfirmDeed, OpenDowngrade as DowngradeDeed};
+ghost use Rattle.nm_rules.specs.Seqids.OwnerWord.{Stays};
 ghost use Rattle.nm_rules.specs.declared.calls.Event.TheVariants.{Asked as AskedEvent};
 ghost use Rattle.nm_state.specs.Opening.{Applied, after_opens};
 ghost use Rattle.nm_state.specs.Turns.{Went, reply_behind};
@@ -110,7 +111,7 @@ impl Tables {
 
     // What an OPEN_CONFIRM whose turn it is does.
     fn confirm_in_turn(&mut self, call: &Call, args: &OpenConfirmArgs, verdict: Verdict) -> Reply
-        ensures { Went self.old (record { caller = call.now.caller; file = call.now.file; deed = ConfirmDeed args.now }) verdict result None self.new }
+        ensures { Went self.old (record { caller = call.now.caller; file = call.now.file; deed = ConfirmDeed args.now }) verdict result None Stays self.new }
     {
         if let Some(status) = self.confirm_refusal(call, args, verdict) {
             return self.reply(status, ReplyValue::OpenConfirm(None));
@@ -127,7 +128,7 @@ impl Tables {
         args: &OpenDowngradeArgs,
         verdict: Verdict,
     ) -> Reply
-        ensures { Went self.old (record { caller = call.now.caller; file = call.now.file; deed = DowngradeDeed args.now }) verdict result None self.new }
+        ensures { Went self.old (record { caller = call.now.caller; file = call.now.file; deed = DowngradeDeed args.now }) verdict result None Stays self.new }
     {
         if let Some(status) = self.downgrade_refusal(call, args, verdict) {
             return self.reply(status, ReplyValue::OpenDowngrade(None));

@@ -13,7 +13,7 @@ ghost use Rattle.nm_state.specs.Opening.{Applied, after_word};
 
 use crate::checks::{is_empty, lease_refusal, refuse_if, size_of};
 use crate::parts::{TRANSFER_LIMIT, part, taken};
-use crate::stateids::{meets, unresolved_at};
+use crate::stateids::{any_unresolved, meets};
 use crate::tables::Tables;
 use nm_rules::{
     Bytes, CommitArgs, FileRow, Instance, Memory, OpStatus, ReadArgs, ReadOk, Reply, ReplyValue,
@@ -65,7 +65,7 @@ fn write_value(args: &WriteArgs) -> Option<WriteOk>
 }
 
 impl Tables {
-    // A stateid that a server made has to stand for an open of the caller's own.
+    // A stateid that a server made has to stand for an open or for locks of the caller's own.
     #[tactic(auto, unfolding(nm_rules::specs::Data::unresolved_stop))]
     pub(crate) fn unresolved_stop(
         &self,
@@ -77,11 +77,13 @@ impl Tables {
         match stateid {
             StateRef::Zeros => None,
             StateRef::Ones => None,
-            StateRef::Named(_) => unresolved_at(caller, self.resolved(stateid)),
+            StateRef::Named(_) => {
+                any_unresolved(caller, self.resolved(stateid), self.lock_named(stateid))
+            }
         }
     }
 
-    // What the open says that the stateid stands for, unless it is a special one.
+    // What the open or the locks say that the stateid stands for, unless it is a special one.
     #[tactic(auto, unfolding(nm_rules::specs::Data::stale_stop))]
     pub(crate) fn stale_stop(&self, file: u64, stateid: StateRef, access: u32) -> Option<OpStatus>
         ensures { result ≡ stale_stop self.now file stateid access }
@@ -90,7 +92,8 @@ impl Tables {
             StateRef::Zeros => None,
             StateRef::Ones => None,
             StateRef::Named(_) => {
-                self.live_stop(file, stateid, access, self.open_named(stateid))
+                let (row, lock) = (self.open_named(stateid), self.lock_named(stateid));
+                self.any_stop(file, stateid, access, row, lock)
             }
         }
     }

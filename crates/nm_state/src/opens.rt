@@ -8,6 +8,7 @@ ghost use Rattle.nm_rules.specs.Checks.{behind_seqid, refuse_if};
 ghost use Rattle.nm_rules.specs.Opens.{GoesOpen, target, target_at, row_of, file_to_open, open_kind, is_share, name_refusal, draws_past_end, tree_limit, open_limit, open_checks, row_to_open, rows_limit, rows_with_open, one_if, open_change, open_flags, open_set, open_value};
 ghost use Rattle.nm_rules.specs.Stateids.{stateid_of};
 ghost use Rattle.nm_rules.specs.declared.status.OpStatus.TheVariants.{Resource};
+ghost use Rattle.nm_rules.specs.Seqids.OwnerWord.{Stays};
 ghost use Rattle.nm_rules.specs.declared.calls.Event.TheVariants.{Asked as AskedEvent};
 ghost use Rattle.nm_rules.specs.declared.calls.Deed.TheVariants.{Open as OpenDeed};
 ghost use Rattle.nm_rules.specs.Answer.{answer_to};
@@ -137,6 +138,7 @@ impl Tables {
             < with_one(owners, owner_is_new)
                 .saturating_add(with_one(opens, open_is_new))
                 .saturating_add(closed)
+                .saturating_add(self.lock_rows())
     }
 
     // The counter that an OPEN would draw, and the rows that it would leave.
@@ -352,7 +354,7 @@ impl Tables {
     ) -> Result<Reply, Memory>
         requires owner { owner.now ≡ opener party args.now }
         requires passes { Passes (open_checks self.old (Some party) call.now.file args.now verdict) }
-        ensures { IfOk result (λ r. Went self.old (record { caller = Some party; file = call.now.file; deed = OpenDeed args.now }) verdict r None self.new) }
+        ensures { IfOk result (λ r. Went self.old (record { caller = Some party; file = call.now.file; deed = OpenDeed args.now }) verdict r None Stays self.new) }
     {
         if let Some(status) = self.open_stop(party, owner, call.file, args, verdict) {
             return Ok(self.reply(status, ReplyValue::Open(None)));

@@ -1,6 +1,8 @@
 //! The seqids of owners (RFC 7530, 9.1.7): whether it is an operation's turn, and how its owner then moves on.
-ghost use Rattle.std.specs.Prelude.{◌≡◌, ◌<◌, Some, IfOk, OnOk, nat_le, option_copied};
+ghost use Rattle.std.specs.Prelude.{◌≡◌, ◌<◌, ◌+◌, Some, None, false, IfOk, OnOk, length, nat_le, option_copied};
 ghost use Rattle.nm_rules.specs.Answer.{refused_value, reply_with};
+ghost use Rattle.nm_rules.specs.LockOps.{newcomer_stop};
+ghost use Rattle.nm_rules.specs.LockRows.{ranges_taken};
 ghost use Rattle.nm_rules.specs.Opens.{rows_limit, rows_taken};
 ghost use Rattle.nm_rules.specs.Past.{noted_row, opener};
 ghost use Rattle.nm_rules.specs.Seqids.{owner_at, seqid_of};
@@ -8,18 +10,20 @@ ghost use Rattle.nm_rules.specs.Seqids.OwnerWord.{Noted};
 ghost use Rattle.nm_rules.specs.Stateids.{owner_stop};
 ghost use Rattle.nm_rules.specs.declared.calls.Deed.TheVariants.{Open as OpenDeed};
 ghost use Rattle.nm_state.specs.declared.seqids.Turn.TheVariants.{Answered};
-ghost use Rattle.nm_state.specs.Turns.{after_noting, note_word, turn_at, turn_by, turn_to_open};
+ghost use Rattle.nm_state.specs.Taken.{counted};
+ghost use Rattle.nm_state.specs.Turns.{after_noting, lock_turn_at, note_word, turn_at, turn_behind, turn_by, turn_to_open};
 
 use crate::claims::claim_unresolved;
 use crate::closed::drop_owned;
-use crate::stateids::is_own;
+use crate::file_ranges::taken;
+use crate::stateids::{is_own, is_own_lock};
 use crate::tables::Tables;
 use nm_rules::{
-    Call, Deed, Instance, Items, Judgement, Memory, OpStatus, OpenArgs, OpenRow, Owner, Reply,
-    ReplyValue, StateRef,
+    Call, Deed, Instance, Items, Judgement, LockRow, Memory, OpStatus, OpenArgs, OpenRow, Owner,
+    Reply, ReplyValue, StateRef,
 };
 
-/// The owners, the opens and the closed opens of a file system.
+/// The owners, the opens, the closed opens, the stateids of lock owners and the ranges of a file system.
 pub const ROWS_LIMIT: usize = 65_536;
 
 /// Whether it is an operation's turn.
@@ -32,7 +36,7 @@ pub enum Turn {
 }
 
 impl Tables {
-    // The value of a refusal: none, but that SETATTR says that it set nothing.
+    // The value of a refusal: none, but that SETATTR says that it set nothing, and RELEASE_LOCKOWNER that it released nobody.
     fn refused_value(&self, deed: &Deed) -> ReplyValue
         ensures { result ≡ refused_value deed.now }
     {
@@ -42,6 +46,8 @@ impl Tables {
             Deed::Commit(_) => ReplyValue::Commit(None),
             Deed::Create(_) => ReplyValue::Create(None),
             Deed::GetAttr(_) => ReplyValue::GetAttr(None),
+            Deed::Lock(_) => ReplyValue::Lock(None),
+            Deed::LockTest(_) => ReplyValue::LockTest(None),
             Deed::Lookup(_) => ReplyValue::Lookup(None),
             Deed::LookupP => ReplyValue::LookupP(None),
             Deed::Open(_) => ReplyValue::Open(None),
@@ -49,8 +55,10 @@ impl Tables {
             Deed::OpenDowngrade(_) => ReplyValue::OpenDowngrade(None),
             Deed::Read(_) => ReplyValue::Read(None),
             Deed::ReadDir(_) => ReplyValue::ReadDir(None),
+            Deed::ReleaseLockOwner(_) => ReplyValue::ReleaseLockOwner(false),
             Deed::Remove(_) => ReplyValue::Remove(None),
             Deed::SetAttr(_) => ReplyValue::SetAttr(Items::new(self.alloc)),
+            Deed::Unlock(_) => ReplyValue::Unlock(None),
             Deed::Write(_) => ReplyValue::Write(None),
         }
     }
@@ -99,6 +107,47 @@ impl Tables {
         }
     }
 
+    /// Whether it is the turn of an operation on the locks of an owner.
+    #[tactic(auto, unfolding(crate::specs::Turns::lock_turn_at))]
+    pub fn lock_turn_at(
+        &self,
+        row: Option<&LockRow>,
+        seqid: u32,
+        call: &Call,
+    ) -> Result<Turn, Memory>
+        ensures { IfOk result (λ turn. turn ≡ lock_turn_at self.now (option_copied row.entry) seqid call.now.caller call.now.file call.now.deed) }
+    {
+        match row {
+            None => Ok(self.refused(OpStatus::BadStateId, &call.deed)),
+            Some(row) => {
+                if !is_own_lock(call.caller, row) {
+                    return Ok(self.refused(OpStatus::BadStateId, &call.deed));
+                }
+                self.turn_by(false, &row.owner, seqid, call)
+            }
+        }
+    }
+
+    /// Its turn, unless a lock owner doesn't come as a new one.
+    pub fn turn_behind(&self, call: &Call, newcomer: Option<OpStatus>, turn: Turn) -> Turn
+        ensures { result ≡ turn_behind call.now.deed newcomer turn }
+    {
+        match turn {
+            Turn::Answered(reply) => Turn::Answered(reply),
+            Turn::Of(owner) => match newcomer {
+                None => Turn::Of(owner),
+                Some(status) => self.refused(status, &call.deed),
+            },
+        }
+    }
+
+    /// How many stateids of lock owners there are, and ranges that they hold.
+    pub fn lock_rows(&self) -> usize
+        ensures { result ≡ counted (length self.now.locks + ranges_taken self.now.ranges) }
+    {
+        self.locks.len().saturating_add(taken(&self.ranges))
+    }
+
     // There is no room for one more row.
     fn is_full(&self) -> bool
         ensures { result ≡ nat_le rows_limit (rows_taken self.now) }
@@ -109,6 +158,7 @@ impl Tables {
             <= owners
                 .saturating_add(opens)
                 .saturating_add(self.closed.len())
+                .saturating_add(self.lock_rows())
     }
 
     /// Whether it is the turn of an OPEN.
@@ -131,18 +181,19 @@ impl Tables {
         self.turn_by(self.is_full(), owner, args.seqid, call)
     }
 
-    // Keeps an owner's operation, the reply to it, and the open that it closed.
+    /// Keeps an owner's operation with its seqid, the reply to it, and the open that it closed.
     #[tactic(auto, unfolding(crate::specs::Turns::after_noting, nm_rules::specs::Seqids::owners_after, nm_rules::specs::Seqids::closed_after))]
-    fn keep(
+    pub fn keep(
         &mut self,
         owner: &Owner,
+        seqid: u32,
         call: &Call,
         reply: &Reply,
         closed: Option<OpenRow>,
     ) -> Result<(), Memory>
-        ensures { OnOk result (self.new ≡ after_noting (Noted (noted_row (owner_at owner.now self.old.owners) owner.now (seqid_of call.now.deed) call.now reply.now) closed) self.old) }
+        ensures { OnOk result (self.new ≡ after_noting (Noted (noted_row (owner_at owner.now self.old.owners) owner.now seqid call.now reply.now) closed) self.old) }
     {
-        self.owners.note(owner, call.deed.seqid(), call, reply)?;
+        self.owners.note(owner, seqid, call, reply)?;
         drop_owned(&mut self.closed, owner);
         match closed {
             None => Ok(()),
@@ -164,6 +215,6 @@ impl Tables {
         if !reply.status.advances() {
             return Ok(());
         }
-        self.keep(owner, call, reply, closed)
+        self.keep(owner, call.deed.seqid(), call, reply, closed)
     }
 }

@@ -31,7 +31,7 @@ fn attributes_stop(asks: Asked) -> Option<OpStatus>
 }
 
 impl Tables {
-    // A stateid that a server made has to stand for an open.
+    // A stateid that a server made has to stand for an open or for locks.
     #[tactic(auto, unfolding(nm_rules::specs::Data::unknown_stop))]
     fn unknown_stop(&self, stateid: StateRef) -> Option<OpStatus>
         ensures { result ≡ unknown_stop self.now stateid }
@@ -40,7 +40,8 @@ impl Tables {
             StateRef::Zeros => None,
             StateRef::Ones => None,
             StateRef::Named(_) => {
-                refuse_if(self.resolved(stateid).is_none(), OpStatus::BadStateId)
+                let unknown = self.resolved(stateid).is_none() && self.lock_named(stateid).is_none();
+                refuse_if(unknown, OpStatus::BadStateId)
             }
         }
     }

@@ -10,7 +10,7 @@ ghost use Rattle.nm_rules.specs.Holders.{has_row, holders};
 ghost use Rattle.nm_state.specs.State.{fresh, ended, holder_of, Applies, Answers};
 
 use crate::holders::{gather, has_open, has_owner};
-use crate::shown::show_opens;
+use crate::shown::show;
 use crate::tables::Tables;
 use nm_rules::{Event, FsNum, HeldTable, Instance, Memory, OpStatus, Reply, StateId, StateRef};
 use std::alloc::Global;
@@ -107,7 +107,13 @@ impl FsState {
         if self.spent {
             return Err(Memory);
         }
-        show_opens(self.alloc, self.tables.files(), self.tables.opens())
+        show(
+            self.alloc,
+            self.tables.files(),
+            self.tables.opens(),
+            self.tables.locks(),
+            self.tables.ranges(),
+        )
     }
 
     /// Who holds something, in the order of string, verifier, flavor and user, each once.

@@ -1,4 +1,4 @@
-//! The tables of a file system: its files, its opens and its owners, and what each event is answered and leaves.
+//! The tables of a file system: its files, its opens, its locks and its owners, and what each event is answered and leaves.
 ghost use Rattle.std.specs.Prelude.{◌≡◌, IfOk};
 ghost use Rattle.nm_rules.specs.Seen.{empty};
 ghost use Rattle.nm_rules.specs.declared.calls.Event.TheVariants.{Asked};
@@ -6,10 +6,12 @@ ghost use Rattle.nm_rules.specs.Answer.{answer_to, reply_with};
 ghost use Rattle.nm_state.specs.Opening.{Applied, after_end};
 
 use crate::closed::{copy_rows, drop_of};
+use crate::file_ranges::{self, FileRanges};
+use crate::lock_rows;
 use nm_owners::Owners;
 use nm_rules::{
-    Call, Deed, Event, FileRow, FsNum, Instance, Items, Memory, OpStatus, OpenRow, OwnerRow, Reply,
-    ReplyValue, Verdict,
+    Call, Deed, Event, FileRow, FsNum, Instance, Items, LockRow, Memory, OpStatus, OpenRow,
+    OwnerRow, Reply, ReplyValue, Verdict,
 };
 use nm_shares::Shares;
 use nm_tree::Tree;
@@ -27,6 +29,10 @@ pub struct Tables {
     pub(crate) owners: Owners,
     // The opens whose CLOSE is their owner's kept call, as they were closed.
     pub(crate) closed: Vec<OpenRow>,
+    // The stateids of lock owners, by rising counter.
+    pub(crate) locks: Vec<LockRow>,
+    // What they hold, of each file on which they hold something.
+    pub(crate) ranges: Vec<FileRanges>,
 }
 
 impl Model for Tables {
@@ -41,12 +47,14 @@ impl Model for Tables {
       opens = f.shares.table;
       owners = f.owners.table;
       closed = f.closed.items;
+      locks = f.locks.items;
+      ranges = f.ranges.items;
       last = f.shares.last;
     } };
 }
 
 impl Tables {
-    /// A file system with no file but the root, no opens and no owners.
+    /// A file system with no file but the root, no opens, no locks and no owners.
     pub fn new(alloc: Global, fs: FsNum, grants: bool) -> Result<Tables, Memory>
         ensures { IfOk result (λ tables. tables ≡ empty fs grants) }
     {
@@ -58,6 +66,8 @@ impl Tables {
             shares: Shares::new(alloc, fs, grants),
             owners: Owners::new(alloc),
             closed: Vec::new(alloc),
+            locks: Vec::new(alloc),
+            ranges: Vec::new(alloc),
         })
     }
 
@@ -73,6 +83,20 @@ impl Tables {
         ensures { result.now ≡ self.now.opens }
     {
         self.shares.rows()
+    }
+
+    /// The stateids of lock owners, by rising counter.
+    pub fn locks(&self) -> &[LockRow]
+        ensures { result.now ≡ self.now.locks }
+    {
+        &self.locks
+    }
+
+    /// What they hold of each file.
+    pub fn ranges(&self) -> &[FileRanges]
+        ensures { result.now ≡ self.now.ranges }
+    {
+        &self.ranges
     }
 
     /// What is kept of the owners that are known.
@@ -94,6 +118,8 @@ impl Tables {
             shares: self.shares.copy()?,
             owners: self.owners.copy()?,
             closed: copy_rows(self.alloc, &self.closed)?,
+            locks: lock_rows::copy_rows(self.alloc, &self.locks)?,
+            ranges: file_ranges::copy_rows(self.alloc, &self.ranges)?,
         })
     }
 
@@ -130,6 +156,8 @@ impl Tables {
             Deed::Commit(args) => Ok(self.commit_answer(caller, file, args, verdict)?),
             Deed::Create(args) => Ok(self.create_answer(caller, file, args, verdict)?),
             Deed::GetAttr(args) => Ok(self.getattr_answer(caller, file, args, verdict)?),
+            Deed::Lock(args) => Ok(self.lock_answer(call, args, verdict)?),
+            Deed::LockTest(args) => Ok(self.test_answer(caller, file, args, verdict)?),
             Deed::Lookup(args) => Ok(self.lookup_answer(caller, file, args, verdict)?),
             Deed::LookupP => Ok(self.lookupp_answer(caller, file, verdict)?),
             Deed::Open(args) => Ok(self.open_answer(call, args, verdict)?),
@@ -137,8 +165,12 @@ impl Tables {
             Deed::OpenDowngrade(args) => Ok(self.downgrade_answer(call, args, verdict)?),
             Deed::Read(args) => Ok(self.read_answer(caller, file, args, verdict)?),
             Deed::ReadDir(args) => Ok(self.readdir_answer(caller, file, args, verdict)?),
+            Deed::ReleaseLockOwner(args) => {
+                Ok(self.release_answer(caller, file, args, verdict)?)
+            }
             Deed::Remove(args) => Ok(self.remove_answer(caller, file, args, verdict)?),
             Deed::SetAttr(args) => Ok(self.setattr_answer(caller, file, args, verdict)?),
+            Deed::Unlock(args) => Ok(self.unlock_answer(call, args, verdict)?),
             Deed::Write(args) => Ok(self.write_answer(caller, file, args, verdict)?),
         }
     }
@@ -154,6 +186,8 @@ impl Tables {
             Deed::Commit(args) => Ok(self.commit_answer(caller, file, args, verdict)?),
             Deed::Create(args) => Ok(self.create(caller, file, args, verdict)?),
             Deed::GetAttr(args) => Ok(self.getattr_answer(caller, file, args, verdict)?),
+            Deed::Lock(args) => Ok(self.lock(call, args, verdict)?),
+            Deed::LockTest(args) => Ok(self.test_answer(caller, file, args, verdict)?),
             Deed::Lookup(args) => Ok(self.lookup_answer(caller, file, args, verdict)?),
             Deed::LookupP => Ok(self.lookupp_answer(caller, file, verdict)?),
             Deed::Open(args) => Ok(self.open(call, args, verdict)?),
@@ -161,20 +195,24 @@ impl Tables {
             Deed::OpenDowngrade(args) => Ok(self.downgrade(call, args, verdict)?),
             Deed::Read(args) => Ok(self.read_answer(caller, file, args, verdict)?),
             Deed::ReadDir(args) => Ok(self.readdir_answer(caller, file, args, verdict)?),
+            Deed::ReleaseLockOwner(args) => Ok(self.release(caller, file, args, verdict)?),
             Deed::Remove(args) => Ok(self.remove(caller, file, args, verdict)?),
             Deed::SetAttr(args) => Ok(self.setattr(caller, file, args, verdict)?),
+            Deed::Unlock(args) => Ok(self.unlock(call, args, verdict)?),
             Deed::Write(args) => Ok(self.write(caller, file, args, verdict)?),
         }
     }
 
     /// All that an instance holds goes, and all that is kept of its owners.
-    #[tactic(auto, unfolding(crate::specs::Opening::after_end, nm_rules::specs::Seqids::owners_after, nm_rules::specs::Seqids::closed_after))]
+    #[tactic(auto, unfolding(crate::specs::Opening::after_end, nm_rules::specs::Seqids::owners_after, nm_rules::specs::Seqids::closed_after, nm_rules::specs::LockRows::locks_after, nm_rules::specs::LockRows::ranges_after))]
     pub fn end(&mut self, instance: &Instance)
         ensures { self.new ≡ after_end self.old instance.now }
     {
         self.shares.drop_client(instance);
         self.owners.drop_client(instance);
         drop_of(&mut self.closed, instance);
+        file_ranges::drop_of(&mut self.ranges, &self.locks, instance);
+        lock_rows::drop_of(&mut self.locks, instance);
     }
 
     /// Answers an event, and changes the tables as the answer says. After want of memory nothing is promised of them.

@@ -1,3 +1,4 @@
+use Rattle.std.proofs.Common.{refl}
 use Rattle.nm_rules.specs.declared.calls.Call.{Call}
 use Rattle.nm_rules.specs.declared.calls.Deed.TheVariants.{Close}
 use Rattle.nm_state.proofs.WentLemmas.{close_names, told_close, went_refused}
@@ -6,7 +7,7 @@ use Rattle.nm_state.proofs.tables.Tables.close_reply.Goals as goal
 pub returns-in-Some : goal.returns-in-Some
 returns-in-Some c =
     let call : Call = record { caller = c.args.call.now.caller; file = c.args.call.now.file; deed = Close c.args.args.now } in
-    rw c.reply.ensures (went_refused c.args.self.now call c.args.verdict c.in-Some.status c.in-Some.ensures).answer
+    rw c.reply.ensures (went_refused c.args.self.now call c.args.verdict c.in-Some.status refl c.in-Some.ensures).answer
 
 pub changed_stateid-id-requires : goal.changed_stateid-id-requires
 changed_stateid-id-requires c = close_names c.args.self.now c.args.call.now.caller c.args.call.now.file c.args.args.now c.args.verdict c.in_default.ensures

@@ -10,7 +10,7 @@ pub returns-in-Some : goal.returns-in-Some
 unfolding seqid_owner
 returns-in-Some c =
     let call : Call = record { caller = c.args.caller; file = c.args.file; deed = Create c.args.args.now } in
-    rw c.reply.ensures (applied_refused c.args.self.now call c.args.verdict c.in-Some.status refl c.in-Some.ensures)
+    rw c.reply.ensures (applied_refused c.args.self.now call c.args.verdict c.in-Some.status refl refl c.in-Some.ensures)
 
 pub make_directory-requires : goal.make_directory-requires
 make_directory-requires c = create_goes c.args.self.now c.args.file c.args.args.now c.args.verdict c.in_default.ensures

@@ -1,4 +1,4 @@
-use Rattle.std.proofs.Common.{Some}
+use Rattle.std.proofs.Common.{Some, refl}
 use Rattle.nm_rules.specs.declared.calls.Call.{Call}
 use Rattle.nm_rules.specs.declared.calls.Deed.TheVariants.{Open}
 use Rattle.nm_state.proofs.WentLemmas.{told_open, went_refused}
@@ -7,7 +7,7 @@ use Rattle.nm_state.proofs.tables.Tables.open_reply.Goals as goal
 pub returns-in-Some : goal.returns-in-Some
 returns-in-Some c =
     let call : Call = record { caller = Some c.args.party; file = c.args.call.now.file; deed = Open c.args.args.now } in
-    rw c.reply.ensures (went_refused c.args.self.now call c.args.verdict c.in-Some.status c.in-Some.ensures).answer
+    rw c.reply.ensures (went_refused c.args.self.now call c.args.verdict c.in-Some.status refl c.in-Some.ensures).answer
 
 pub returns : goal.returns
 returns c =

@@ -10,7 +10,7 @@ pub returns-in-Some : goal.returns-in-Some
 unfolding seqid_owner
 returns-in-Some c =
     let call : Call = record { caller = c.args.caller; file = c.args.file; deed = SetAttr c.args.args.now } in
-    rw (c.reply.ensures, c.new.ensures) (applied_refused c.args.self.now call c.args.verdict c.in-Some.status refl c.in-Some.ensures)
+    rw (c.reply.ensures, c.new.ensures) (applied_refused c.args.self.now call c.args.verdict c.in-Some.status refl refl c.in-Some.ensures)
 
 pub set_attributes-requires : goal.set_attributes-requires
 set_attributes-requires c =

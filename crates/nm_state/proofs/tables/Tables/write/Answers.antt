@@ -10,7 +10,7 @@ pub returns-in-Some : goal.returns-in-Some
 unfolding seqid_owner
 returns-in-Some c =
     let call : Call = record { caller = c.args.caller; file = c.args.file; deed = Write c.args.args.now } in
-    rw c.reply.ensures (applied_refused c.args.self.now call c.args.verdict c.in-Some.status refl c.in-Some.ensures)
+    rw c.reply.ensures (applied_refused c.args.self.now call c.args.verdict c.in-Some.status refl refl c.in-Some.ensures)
 
 pub write_bytes-requires : goal.write_bytes-requires
 write_bytes-requires c = write_goes c.args.self.now c.args.caller c.args.file c.args.args.now c.args.verdict c.in_default.ensures

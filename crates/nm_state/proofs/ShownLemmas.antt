@@ -1,0 +1,2 @@
+-- What is held, as it is listed.
+use Rattle.std.proofs.Common.{◌≡◌, ℕ}
