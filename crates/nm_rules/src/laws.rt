@@ -42,7 +42,7 @@ pub fn tables_show_what_stands()
 {}
 
 /// The counter of the last stateid is how many were made, one by each OPEN that acted while its owner had no share of the file
-/// (RFC 7530, 16.16); and the k-th one is told with the counter k.
+/// (RFC 7530, 16.16) and by each LOCK that acted for a new lock owner (16.10); and the k-th one is told with the counter k.
 pub fn stateids_are_counted()
     ensures last { (fs : ℕ) (grants : Bool) (es : Past) → IsLegal fs grants es → (seen fs grants es).last ≡ stateids_made es }
     ensures told { (fs : ℕ) (grants : Bool) (es : Past) (event : AnyEvent) → IsLegal fs grants es
