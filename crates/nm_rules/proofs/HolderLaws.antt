@@ -19,7 +19,7 @@ use Rattle.nm_rules.specs.Seqids.{OwnerWord, put_owner, owners_after}
 use Rattle.nm_rules.specs.Seqids.OwnerWord.{Stays, Noted, Gone, GoneOf}
 use Rattle.nm_rules.specs.Shares.{OpenWord, put_open, opens_after}
 use Rattle.nm_rules.specs.Shares.OpenWord.{Keep, Put, Drop, DropOf}
-use Rattle.nm_rules.specs.Past.{Now, words, no_words, acts, deed_words, lock_words, release_words, owner_word, started_by}
+use Rattle.nm_rules.specs.Past.{Now, words, no_words, acts, deed_words, lock_words, is_released, released_words, release_words, owner_word, started_by}
 use Rattle.nm_rules.specs.Seen.{Seen, look, after, after_words}
 use Rattle.nm_rules.specs.declared.args.LockArgs.{LockArgs}
 use Rattle.nm_rules.specs.declared.calls.Call.{Call}
@@ -32,7 +32,7 @@ use Rattle.nm_rules.specs.declared.calls.ReplyValue.{ReplyValue}
 use Rattle.nm_rules.specs.declared.calls.ReplyValue.TheVariants as told
 use Rattle.nm_rules.specs.declared.owners.OwnerRow.{OwnerRow}
 use Rattle.nm_rules.specs.declared.rows.OpenRow.{OpenRow}
-use Rattle.nm_rules.proofs.Refusals.{lock_keeps, release_keeps}
+use Rattle.nm_rules.proofs.Refusals.{lock_keeps}
 
 pub party_cmp-total : IsTotalOrder party_cmp
 party_cmp-total = search (comparing, rules) depth 12
@@ -301,26 +301,12 @@ lock_opens n caller file args (told.Unlock _) = refl
 lock_opens n caller file args (told.Write _) = refl
 
 release_opens : (caller : Option Party) (text : List ℕ) (value : ReplyValue) → (release_words caller text value).opens ≡ Keep
-release_opens caller text (told.ReleaseLockOwner released) = (release_keeps caller text released).opens
-release_opens caller text told.Nothing = refl
-release_opens caller text (told.Access _) = refl
-release_opens caller text (told.Close _) = refl
-release_opens caller text (told.Commit _) = refl
-release_opens caller text (told.Create _) = refl
-release_opens caller text (told.GetAttr _) = refl
-release_opens caller text (told.LockTest _) = refl
-release_opens caller text (told.Lookup _) = refl
-release_opens caller text (told.LookupP _) = refl
-release_opens caller text (told.Open _) = refl
-release_opens caller text (told.OpenConfirm _) = refl
-release_opens caller text (told.OpenDowngrade _) = refl
-release_opens caller text (told.Read _) = refl
-release_opens caller text (told.ReadDir _) = refl
-release_opens caller text (told.Remove _) = refl
-release_opens caller text (told.SetAttr _) = refl
-release_opens caller text (told.Unlock _) = refl
-release_opens caller text (told.Write _) = refl
-release_opens caller text (told.Lock _) = refl
+release_opens caller text value = by_test (is_released value) caller
+  where
+    by_test : (b : Bool) (caller : Option Party) → (cond b (released_words caller text) no_words).opens ≡ Keep
+    by_test false caller = refl
+    by_test true None = refl
+    by_test true (Some party) = refl
 
 one_grows : (n : Now) (call : Call) (r : Reply) (caller : Option Party) (file : ℕ) (d : Deed) (value : ReplyValue)
     → ((deed_words n caller file d value).opens ≡ Keep) ⊎ (started_by n call r d value ≡ Stays)

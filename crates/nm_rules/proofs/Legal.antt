@@ -119,7 +119,7 @@ opened_sound last rows owner file access deny rising apart free (Some old) found
 
 -- ---- what nothing stops
 
-no_or : (a b : Bool) → (a || b) ≡ false → (a ≡ false) × (b ≡ false)
+pub no_or : (a b : Bool) → (a || b) ≡ false → (a ≡ false) × (b ≡ false)
 no_or false b h = (refl, h)
 no_or true b h = absurd (true≢false h)
 

@@ -1,7 +1,7 @@
 -- Which stateids were made, in the standard's words, read off the entries alone (RFC 7530, 9.1.4, 16.10 and 16.16).
 use Rattle.std.specs.Prelude.{◌≡◌, ℕ, ◌+◌, Bool, true, false, [], ◌∷◌, Option, Some, None, is_none, if◌then◌else◌}
 use Rattle.nm_rules.specs.Parties.{Party}
-use Rattle.nm_rules.specs.Past.{Past, now, acts, opener}
+use Rattle.nm_rules.specs.Past.{Past, now, acts, is_locked, opener}
 use Rattle.nm_rules.specs.Readings.{share_of}
 use Rattle.nm_rules.specs.declared.args.Locker.{Locker}
 use Rattle.nm_rules.specs.declared.args.Locker.TheVariants.{New, Known}
@@ -19,11 +19,6 @@ use Rattle.nm_rules.specs.declared.results.LockOutcome.TheVariants.{Locked}
 abbrev pub is_first : Past → Option Party → OpenArgs → ReplyValue → Bool
 is_first earlier (Some party) args (told.Open (Some opened)) = is_none (share_of earlier (opener party args) opened.file)
 is_first earlier _ args _ = false
-
--- the lock stands
-abbrev pub is_locked : ReplyValue → Bool
-is_locked (told.Lock (Some (Locked _))) = true
-is_locked _ = false
 
 -- It is one of a lock owner that has no stateid on the file.
 abbrev pub is_newcomer : Locker → Option Party → ReplyValue → Bool
