@@ -10,7 +10,7 @@ pub or_none : {A : Type 0} (a b : Option A) → option_or a b ≡ None → (a �
 or_none None b none = (refl, none)
 or_none (Some x) b none = cc
 
-refusal_none : (o : Option OpStatus) → refusal o ≡ None → o ≡ None
+pub refusal_none : (o : Option OpStatus) → refusal o ≡ None → o ≡ None
 refusal_none None none = refl
 refusal_none (Some status) none = cc
 

@@ -7,15 +7,15 @@ use Rattle.nm_rules.specs.Parties.{Party, same_party}
 use Rattle.nm_rules.specs.Owners.{same_owner}
 use Rattle.nm_rules.specs.Shares.{open_at}
 use Rattle.nm_rules.specs.Seqids.{OwnerWord, advances, seqid_of, is_fresh, owner_at, owners_after, owner_left, closed_after, listed}
-use Rattle.nm_rules.specs.Seqids.OwnerWord.{Stays, Noted, GoneOf}
+use Rattle.nm_rules.specs.Seqids.OwnerWord.{Stays, Noted, Gone, GoneOf}
 use Rattle.nm_rules.specs.OwnerReadings.{closed_by_call, kept_close, counter_list, closed_of}
-use Rattle.nm_rules.specs.Past.{Past, Now, Words, words, judgement, seqid_owner, named_by, noted, noted_row, closed_by}
+use Rattle.nm_rules.specs.Past.{Past, Now, Words, words, judgement, seqid_owner, named_by, noted, noted_row, closed_by, started_by}
 use Rattle.nm_rules.specs.Seen.{Seen, seen, look, after, after_words}
 use Rattle.nm_rules.specs.Checks.{Stop, first}
 use Rattle.nm_rules.specs.Checks.Stop.{Refuse, Repeat}
 use Rattle.nm_rules.specs.Opens.{changed_stateid, next_stateid}
 use Rattle.nm_rules.specs.Stateids.{open_named}
-use Rattle.nm_rules.specs.Answer.{answer_to, reply_by, reply_with, refused_value, ok_value, checks, IsLegal}
+use Rattle.nm_rules.specs.Answer.{answer_to, reply_by, refused_value, refusal_value, ok_value, checks, IsLegal}
 use Rattle.nm_rules.specs.declared.calls.Call.{Call}
 use Rattle.nm_rules.specs.declared.calls.Deed.{Deed}
 use Rattle.nm_rules.specs.declared.calls.Deed.TheVariants as deed
@@ -28,9 +28,11 @@ use Rattle.nm_rules.specs.declared.calls.StateRef.{StateRef}
 use Rattle.nm_rules.specs.declared.calls.StateRef.TheVariants.{Zeros, Ones, Named}
 use Rattle.nm_rules.specs.declared.owners.OwnerRow.{OwnerRow}
 use Rattle.nm_rules.specs.declared.rows.OpenRow.{OpenRow}
+use Rattle.nm_rules.specs.declared.status.OpStatus.{OpStatus}
 use Rattle.nm_rules.proofs.OwnerLemmas.{same_owner-Decides}
 use Rattle.nm_rules.proofs.OwnerRows.{owner_by-after}
 use Rattle.nm_rules.proofs.Legal.{words-free, words-old, words-refused, repeat_is_old, named_is_live}
+use Rattle.nm_rules.proofs.Refusals.{by_refusal, by_start}
 
 -- ---- one table after a word
 
@@ -168,6 +170,7 @@ AreKept owners closed = (owner : Owner) → closed_of owner closed ≡ counter_l
 abbrev pub NotesClosed : OwnerWord → Type 0
 NotesClosed Stays = Unit {0}
 NotesClosed (Noted row closed) = ClosesOwn row.owner closed (closed_by_call row.call.deed row.reply.value)
+NotesClosed (Gone owner) = Unit {0}
 NotesClosed (GoneOf party) = Unit {0}
 
 pub kept-after : (word : OwnerWord) (owners : List OwnerRow) (closed : List OpenRow) → NotesClosed word → AreKept owners closed
@@ -183,6 +186,14 @@ kept-after (Noted row gone) owners closed notes kept owner =
         ≡ counter_list (kept_close (cond b (Some row) (owner_at owner owners)))
     by_test true = refl
     by_test false = kept owner
+kept-after (Gone its) owners closed notes kept owner =
+    by_test (same_owner owner its) refl ∙ ap (λ o. counter_list (kept_close o)) (sym (owner_by-after (Gone its) owners owner))
+  where
+    by_test : (b : Bool) → same_owner owner its ≡ b
+        → closed_of owner (filter (λ x. not (same_owner its x.owner)) closed) ≡ counter_list (kept_close (cond b None (owner_at owner owners)))
+    by_test true same =
+        ap (λ (o : Owner). closed_of owner (filter (λ x. not (same_owner o x.owner)) closed)) (sym ((same_owner-Decides owner its).0 same)) ∙ swept_own owner closed
+    by_test false other = swept_other owner its closed other ∙ kept owner
 kept-after (GoneOf party) owners closed notes kept owner =
     ended_closed party owner closed
     ∙ by_test (same_party party owner.instance)
@@ -212,6 +223,8 @@ refused_closes n owner (deed.Close _) = refl
 refused_closes n owner (deed.Commit _) = refl
 refused_closes n owner (deed.Create _) = refl
 refused_closes n owner (deed.GetAttr _) = refl
+refused_closes n owner (deed.Lock _) = refl
+refused_closes n owner (deed.LockTest _) = refl
 refused_closes n owner (deed.Lookup _) = refl
 refused_closes n owner deed.LookupP = refl
 refused_closes n owner (deed.Open _) = refl
@@ -219,9 +232,24 @@ refused_closes n owner (deed.OpenConfirm _) = refl
 refused_closes n owner (deed.OpenDowngrade _) = refl
 refused_closes n owner (deed.Read _) = refl
 refused_closes n owner (deed.ReadDir _) = refl
+refused_closes n owner (deed.ReleaseLockOwner _) = refl
 refused_closes n owner (deed.Remove _) = refl
 refused_closes n owner (deed.SetAttr _) = refl
+refused_closes n owner (deed.Unlock _) = refl
 refused_closes n owner (deed.Write _) = refl
+
+refusal_closes : (s : Seen) (owner : Owner) (caller : Option Party) (file : ℕ) (d : Deed) (status : OpStatus)
+    → ClosesOwn owner (closed_by (look s) d (refusal_value s caller file d status)) (closed_by_call d (refusal_value s caller file d status))
+unfolding closed_by closed_by_call
+refusal_closes s owner caller file d status =
+    by_refusal (λ its_deed value. ClosesOwn owner (closed_by (look s) its_deed value) (closed_by_call its_deed value))
+    (refused_closes (look s) owner) (λ args o. refl) (λ args o. refl) s caller file d status
+
+-- what starts or releases a lock owner closes nothing
+start_notes : (s : Seen) (call : Call) (r : Reply) (caller : Option Party) (file : ℕ) → NotesClosed (started_by (look s) call r call.deed (ok_value s caller file call.deed))
+unfolding closed_by_call
+start_notes s call r caller file =
+    by_start NotesClosed s call r tt (λ party text seqid args it. rw it refl) (λ party text. tt) caller file call.deed refl
 
 -- a live open's owner is the one for whom its stateid is used
 live_named : (s : Seen) (stateid : StateRef) (row : OpenRow) → open_named s stateid ≡ Some row → named_by (look s) stateid ≡ Some row
@@ -251,6 +279,8 @@ free_closes s caller file (deed.Close args) owner its = by_open (open_named s ar
 free_closes s caller file (deed.Commit _) owner its = refl
 free_closes s caller file (deed.Create _) owner its = refl
 free_closes s caller file (deed.GetAttr _) owner its = refl
+free_closes s caller file (deed.Lock _) owner its = refl
+free_closes s caller file (deed.LockTest _) owner its = refl
 free_closes s caller file (deed.Lookup _) owner its = refl
 free_closes s caller file deed.LookupP owner its = refl
 free_closes s caller file (deed.Open _) owner its = refl
@@ -258,34 +288,46 @@ free_closes s caller file (deed.OpenConfirm _) owner its = refl
 free_closes s caller file (deed.OpenDowngrade _) owner its = refl
 free_closes s caller file (deed.Read _) owner its = refl
 free_closes s caller file (deed.ReadDir _) owner its = refl
+free_closes s caller file (deed.ReleaseLockOwner _) owner its = refl
 free_closes s caller file (deed.Remove _) owner its = refl
 free_closes s caller file (deed.SetAttr _) owner its = refl
+free_closes s caller file (deed.Unlock _) owner its = refl
 free_closes s caller file (deed.Write _) owner its = refl
 
 either_notes : (b : Bool) (word : OwnerWord) → NotesClosed word → NotesClosed (cond b word Stays)
 either_notes true word notes = notes
 either_notes false word notes = tt
 
-event_notes : (s : Seen) (event : Event) → NotesClosed (words (look s) event (answer_to s event)).owners
+-- both words of an entry
+pub record BothNote (w : Words) : Type 0 where
+  pub owners : NotesClosed w.owners
+  pub starts : NotesClosed w.starts
+
+event_notes : (s : Seen) (event : Event) → BothNote (words (look s) event (answer_to s event))
 unfolding answer_to words
-event_notes s (Ended party) = tt
+event_notes s (Ended party) = record { owners = tt; starts = tt }
 event_notes s (Asked call verdict) = by_stop (first (checks s call.caller call.file verdict call.deed)) refl
   where
     by_stop : (x : Option Stop) → first (checks s call.caller call.file verdict call.deed) ≡ x
-        → NotesClosed (words (look s) (Asked call verdict) (reply_by s call x)).owners
-    by_stop (Some (Refuse status)) refused = subst (λ w. NotesClosed w.owners) (sym (words-refused (look s) call verdict status))
-        (either_notes (is_fresh (judgement (look s) call)) _
-        (notes_by (look s) call (reply_with status (refused_value call.deed)) (seqid_owner (look s) call.caller call.deed)
-        (λ owner its. refused_closes (look s) owner call.deed)))
+        → BothNote (words (look s) (Asked call verdict) (reply_by s call x))
+    by_stop (Some (Refuse status)) refused = subst BothNote (sym (words-refused s call verdict status)) (record {
+      owners = either_notes (is_fresh (judgement (look s) call)) _
+          (notes_by (look s) call (reply_by s call (Some (Refuse status))) (seqid_owner (look s) call.caller call.deed)
+          (λ owner its. refusal_closes s owner call.caller call.file call.deed status));
+      starts = tt;
+    })
     by_stop (Some (Repeat kept)) repeats =
-        subst (λ w. NotesClosed w.owners) (sym (words-old (look s) call verdict kept (repeat_is_old s call verdict kept repeats))) tt
-    by_stop None goes = subst (λ w. NotesClosed w.owners) (sym (words-free s call verdict goes))
-        (notes_by (look s) call (reply_by s call None) (seqid_owner (look s) call.caller call.deed)
-        (λ owner its. free_closes s call.caller call.file call.deed owner its))
+        subst BothNote (sym (words-old (look s) call verdict kept (repeat_is_old s call verdict kept repeats))) (record { owners = tt; starts = tt })
+    by_stop None goes = subst BothNote (sym (words-free s call verdict goes)) (record {
+      owners = notes_by (look s) call (reply_by s call None) (seqid_owner (look s) call.caller call.deed)
+          (λ owner its. free_closes s call.caller call.file call.deed owner its);
+      starts = start_notes s call (reply_by s call None) call.caller call.file;
+    })
 
-kept-words : (s : Seen) (w : Words) → NotesClosed w.owners → AreKept s.owners s.closed → AreKept (after_words s w).owners (after_words s w).closed
+kept-words : (s : Seen) (w : Words) → BothNote w → AreKept s.owners s.closed → AreKept (after_words s w).owners (after_words s w).closed
 unfolding after_words
-kept-words s w notes kept = kept-after w.owners s.owners s.closed notes kept
+kept-words s w notes kept =
+    kept-after w.starts (owners_after w.owners s.owners) (closed_after w.owners s.closed) notes.starts (kept-after w.owners s.owners s.closed notes.owners kept)
 
 -- Of a legal list the closed opens of each owner are those that its kept call closed.
 pub closed-seen : (fs : ℕ) (grants : Bool) (es : Past) → IsLegal fs grants es → AreKept (seen fs grants es).owners (seen fs grants es).closed

@@ -14,6 +14,7 @@ use Rattle.nm_rules.specs.Contents.TreeWord.{Untouched, Made, Edited, Removed}
 use Rattle.nm_rules.specs.Contents.FileEdit.{Wrote, Set}
 use Rattle.nm_rules.specs.Data.{write_value}
 use Rattle.nm_rules.specs.Files.{create_value}
+use Rattle.nm_rules.specs.LockOps.{lock_value, changed_lock}
 use Rattle.nm_rules.specs.Opens.{open_checks, open_value, target}
 use Rattle.nm_rules.specs.Seqids.{is_fresh}
 use Rattle.nm_rules.specs.Past.{Past, Now, acts, words, is_done, deed_words, judgement, close_words, confirm_words, downgrade_words, open_tree, claimed_in, claimed_name, opentype_asks, cuts, parent_of, set_tree, write_tree}
@@ -39,6 +40,7 @@ use Rattle.nm_rules.specs.declared.status.OpStatus.{OpStatus}
 use Rattle.nm_rules.proofs.FileRows.{file_at-past}
 use Rattle.nm_rules.proofs.Legal.{free_is_fresh, repeat_is_old, words-refused, words-old, words-free, sound-seen, look-seen, claimed_is_target}
 use Rattle.nm_rules.proofs.Looks.{file_by-after}
+use Rattle.nm_rules.proofs.Refusals.{by_refusal, lock_keeps, unlock_keeps, release_keeps}
 
 -- ---- bytes
 
@@ -259,31 +261,38 @@ either_leaves : (b : Bool) → cond b Leaves Leaves ≡ Leaves
 either_leaves true = refl
 either_leaves false = refl
 
-refused_leaves : (n : Now) (k : ℕ) (call : Call) (verdict : Verdict) (status : OpStatus)
-    → change_of n k (Asked call verdict) (reply_with status (refused_value call.deed)) ≡ Leaves
+value_leaves : (n : Now) (k file : ℕ) (d : Deed) → (b : Bool) → cond b (deed_change n k file d (refused_value d)) Leaves ≡ Leaves
 unfolding is_empty
-refused_leaves n k call verdict status = by_deed (acts n call (reply_with status (refused_value call.deed))) call.deed
+value_leaves n k file (deed.Access _) b = either_leaves b
+value_leaves n k file (deed.Close _) b = either_leaves b
+value_leaves n k file (deed.Commit _) b = either_leaves b
+value_leaves n k file (deed.Create _) b = either_leaves b
+value_leaves n k file (deed.GetAttr _) b = either_leaves b
+value_leaves n k file (deed.Lock _) b = either_leaves b
+value_leaves n k file (deed.LockTest _) b = either_leaves b
+value_leaves n k file (deed.Lookup _) b = either_leaves b
+value_leaves n k file deed.LookupP b = either_leaves b
+value_leaves n k file (deed.Open _) b = either_leaves b
+value_leaves n k file (deed.OpenConfirm _) b = either_leaves b
+value_leaves n k file (deed.OpenDowngrade _) b = either_leaves b
+value_leaves n k file (deed.Read _) b = either_leaves b
+value_leaves n k file (deed.ReadDir _) b = either_leaves b
+value_leaves n k file (deed.ReleaseLockOwner _) b = either_leaves b
+value_leaves n k file (deed.Remove _) b = either_leaves b
+value_leaves n k file (deed.SetAttr args) b = ap (λ c. cond b c Leaves) (nothing_set (file == k)) ∙ either_leaves b
   where
-    by_deed : (b : Bool) (d : Deed) → cond b (deed_change n k call.file d (refused_value d)) Leaves ≡ Leaves
-    by_deed b (deed.Access _) = either_leaves b
-    by_deed b (deed.Close _) = either_leaves b
-    by_deed b (deed.Commit _) = either_leaves b
-    by_deed b (deed.Create _) = either_leaves b
-    by_deed b (deed.GetAttr _) = either_leaves b
-    by_deed b (deed.Lookup _) = either_leaves b
-    by_deed b deed.LookupP = either_leaves b
-    by_deed b (deed.Open _) = either_leaves b
-    by_deed b (deed.OpenConfirm _) = either_leaves b
-    by_deed b (deed.OpenDowngrade _) = either_leaves b
-    by_deed b (deed.Read _) = either_leaves b
-    by_deed b (deed.ReadDir _) = either_leaves b
-    by_deed b (deed.Remove _) = either_leaves b
-    by_deed b (deed.SetAttr args) = ap (λ c. cond b c Leaves) (nothing_set (call.file == k)) ∙ either_leaves b
-      where
-        nothing_set : (c : Bool) → cond (c && false) (Sets (asked_size (asks_of args.attributes)) (asked_mode (asks_of args.attributes))) Leaves ≡ Leaves
-        nothing_set true = refl
-        nothing_set false = refl
-    by_deed b (deed.Write _) = either_leaves b
+    nothing_set : (c : Bool) → cond (c && false) (Sets (asked_size (asks_of args.attributes)) (asked_mode (asks_of args.attributes))) Leaves ≡ Leaves
+    nothing_set true = refl
+    nothing_set false = refl
+value_leaves n k file (deed.Unlock _) b = either_leaves b
+value_leaves n k file (deed.Write _) b = either_leaves b
+
+refused_leaves : (s : Seen) (k : ℕ) (call : Call) (verdict : Verdict) (status : OpStatus)
+    → change_of (look s) k (Asked call verdict) (reply_by s call (Some (Refuse status))) ≡ Leaves
+refused_leaves s k call verdict status =
+    by_refusal (λ d value. (b : Bool) → cond b (deed_change (look s) k call.file d value) Leaves ≡ Leaves)
+    (value_leaves (look s) k call.file) (λ args o b. either_leaves b) (λ args o b. either_leaves b) s call.caller call.file call.deed status
+    (acts (look s) call (reply_by s call (Some (Refuse status))))
 
 open_says : (row : Option FileRow) (dir k number : ℕ) (args : OpenArgs) (o : Option ℕ)
     → cond (number == k) (open_change dir args o) Leaves ≡ change_by (open_tree row dir (claimed_name args.claim) args.opentype o number) k
@@ -345,6 +354,8 @@ goes_says s k caller file verdict (deed.Close _) goes = closed_leaves _
 goes_says s k caller file verdict (deed.Commit _) goes = refl
 goes_says s k caller file verdict (deed.Create args) goes = refl
 goes_says s k caller file verdict (deed.GetAttr _) goes = refl
+goes_says s k caller file verdict (deed.Lock args) goes = sym (ap (λ word. change_by word k) (lock_keeps (look s) caller file args (lock_value s args)).tree)
+goes_says s k caller file verdict (deed.LockTest _) goes = refl
 goes_says s k caller file verdict (deed.Lookup _) goes = refl
 goes_says s k caller file verdict deed.LookupP goes = refl
 goes_says s k None file verdict (deed.Open args) goes = cc
@@ -362,8 +373,10 @@ goes_says s k caller file verdict (deed.OpenDowngrade args) goes = narrowed_leav
     narrowed_leaves (Some id) = refl
 goes_says s k caller file verdict (deed.Read _) goes = refl
 goes_says s k caller file verdict (deed.ReadDir _) goes = refl
+goes_says s k caller file verdict (deed.ReleaseLockOwner args) goes = sym (ap (λ word. change_by word k) (release_keeps caller args.owner true).tree)
 goes_says s k caller file verdict (deed.Remove args) goes = refl
 goes_says s k caller file verdict (deed.SetAttr args) goes = set_says ((look s).file_by file) file k (asks_of args.attributes) _
+goes_says s k caller file verdict (deed.Unlock args) goes = sym (ap (λ word. change_by word k) (unlock_keeps (look s) args (changed_lock s args.stateid)).tree)
 goes_says s k caller file verdict (deed.Write args) goes = write_says ((look s).file_by file) file k args
 
 -- ---- what is made is new
@@ -408,6 +421,8 @@ goes_fresh s k caller file verdict (deed.Close _) sound goes = closed_fresh _
 goes_fresh s k caller file verdict (deed.Commit _) sound goes = tt
 goes_fresh s k caller file verdict (deed.Create args) sound goes = record { zeros = λ p. refl; unused = next_is_unused s k (s.tree.last_file + 1) sound refl }
 goes_fresh s k caller file verdict (deed.GetAttr _) sound goes = tt
+goes_fresh s k caller file verdict (deed.Lock args) sound goes = subst (λ word. BeginsFresh word k (file_at k s.tree.table)) (sym (lock_keeps (look s) caller file args (lock_value s args)).tree) tt
+goes_fresh s k caller file verdict (deed.LockTest _) sound goes = tt
 goes_fresh s k caller file verdict (deed.Lookup _) sound goes = tt
 goes_fresh s k caller file verdict deed.LookupP sound goes = tt
 goes_fresh s k None file verdict (deed.Open args) sound goes = cc
@@ -425,8 +440,10 @@ goes_fresh s k caller file verdict (deed.OpenDowngrade args) sound goes = narrow
     narrowed_fresh (Some id) = tt
 goes_fresh s k caller file verdict (deed.Read _) sound goes = tt
 goes_fresh s k caller file verdict (deed.ReadDir _) sound goes = tt
+goes_fresh s k caller file verdict (deed.ReleaseLockOwner args) sound goes = subst (λ word. BeginsFresh word k (file_at k s.tree.table)) (sym (release_keeps caller args.owner true).tree) tt
 goes_fresh s k caller file verdict (deed.Remove args) sound goes = tt
 goes_fresh s k caller file verdict (deed.SetAttr args) sound goes = set_fresh _ file k (asks_of args.attributes) _ _
+goes_fresh s k caller file verdict (deed.Unlock args) sound goes = subst (λ word. BeginsFresh word k (file_at k s.tree.table)) (sym (unlock_keeps (look s) args (changed_lock s args.stateid)).tree) tt
 goes_fresh s k caller file verdict (deed.Write args) sound goes = write_fresh _ file k args _
 
 -- ---- the laws
@@ -448,7 +465,7 @@ entry_says s k (Asked call verdict) = by_stop (first (checks s call.caller call.
   where
     by_stop : (x : Option Stop) → first (checks s call.caller call.file verdict call.deed) ≡ x
         → change_of (look s) k (Asked call verdict) (reply_by s call x) ≡ change_by (words (look s) (Asked call verdict) (reply_by s call x)).tree k
-    by_stop (Some (Refuse status)) refused = refused_leaves (look s) k call verdict status ∙ ap (λ w. change_by w.tree k) (sym (words-refused (look s) call verdict status))
+    by_stop (Some (Refuse status)) refused = refused_leaves s k call verdict status ∙ ap (λ w. change_by w.tree k) (sym (words-refused s call verdict status))
     by_stop (Some (Repeat kept)) repeats =
         let old = repeat_is_old s call verdict kept repeats in
         old_leaves (look s) k call verdict kept old ∙ ap (λ w. change_by w.tree k) (sym (words-old (look s) call verdict kept old))
@@ -464,7 +481,7 @@ entry_fresh s k (Asked call verdict) sound = by_stop (first (checks s call.calle
   where
     by_stop : (x : Option Stop) → first (checks s call.caller call.file verdict call.deed) ≡ x
         → BeginsFresh (words (look s) (Asked call verdict) (reply_by s call x)).tree k (file_at k s.tree.table)
-    by_stop (Some (Refuse status)) refused = subst (λ w. BeginsFresh w.tree k (file_at k s.tree.table)) (sym (words-refused (look s) call verdict status)) tt
+    by_stop (Some (Refuse status)) refused = subst (λ w. BeginsFresh w.tree k (file_at k s.tree.table)) (sym (words-refused s call verdict status)) tt
     by_stop (Some (Repeat kept)) repeats =
         subst (λ w. BeginsFresh w.tree k (file_at k s.tree.table)) (sym (words-old (look s) call verdict kept (repeat_is_old s call verdict kept repeats))) tt
     by_stop None goes = subst (λ w. BeginsFresh w.tree k (file_at k s.tree.table)) (sym (words-free s call verdict goes))

@@ -1,6 +1,6 @@
 -- Laws of the list of holders: it rises, has just the instances of the rows, and is no longer than these.
-use Rattle.std.proofs.Common.{◌≡◌, ◌≤◌, ◌<◌, ℕ, zero, suc, ◌+◌, Bool, true, false, cond, Result, Ok, Err, List, [], ◌∷◌, length, refl, ap, ◌∙◌, arith, rules}
-use Rattle.std.specs.Prelude.{◌==◌, ◌&&◌, ◌||◌, not, filter}
+use Rattle.std.proofs.Common.{◌≡◌, ◌≤◌, ◌<◌, ℕ, zero, suc, ◌+◌, Bool, true, false, cond, Result, Ok, Err, List, [], ◌∷◌, Option, Some, None, length, refl, ap, inl, inr, ◌∙◌, arith, rules}
+use Rattle.std.specs.Prelude.{◌==◌, ◌&&◌, ◌||◌, ◌⊎◌, not, filter}
 use Rattle.std.specs.List.{list_any, insert, HoldsAt, AllWithin, AllAdjacentBelow}
 use Rattle.std.specs.List.Sorted.{IsNonDecreasingBy, IsSearchInRange, IsBinarySearchResult}
 use Rattle.std.specs.Result.{MatchResult}
@@ -16,15 +16,23 @@ use Rattle.nm_rules.specs.Parties.{Party, same_party, party_cmp}
 use Rattle.nm_rules.specs.Holders.{put_by, put_party, gathered, holders, has_row, opener_of, known_of, is_opener_of, is_owner_of, rises_after, parties_rise, is_among}
 use Rattle.nm_rules.specs.Owners.{same_owner}
 use Rattle.nm_rules.specs.Seqids.{OwnerWord, put_owner, owners_after}
-use Rattle.nm_rules.specs.Seqids.OwnerWord.{Stays, Noted, GoneOf}
+use Rattle.nm_rules.specs.Seqids.OwnerWord.{Stays, Noted, Gone, GoneOf}
 use Rattle.nm_rules.specs.Shares.{OpenWord, put_open, opens_after}
 use Rattle.nm_rules.specs.Shares.OpenWord.{Keep, Put, Drop, DropOf}
-use Rattle.nm_rules.specs.Past.{words}
+use Rattle.nm_rules.specs.Past.{Now, words, no_words, acts, deed_words, lock_words, is_released, released_words, release_words, owner_word, started_by}
 use Rattle.nm_rules.specs.Seen.{Seen, look, after, after_words}
+use Rattle.nm_rules.specs.declared.args.LockArgs.{LockArgs}
+use Rattle.nm_rules.specs.declared.calls.Call.{Call}
+use Rattle.nm_rules.specs.declared.calls.Deed.{Deed}
+use Rattle.nm_rules.specs.declared.calls.Deed.TheVariants as deed
 use Rattle.nm_rules.specs.declared.calls.Event.{Event}
+use Rattle.nm_rules.specs.declared.calls.Event.TheVariants.{Asked, Ended}
 use Rattle.nm_rules.specs.declared.calls.Reply.{Reply}
+use Rattle.nm_rules.specs.declared.calls.ReplyValue.{ReplyValue}
+use Rattle.nm_rules.specs.declared.calls.ReplyValue.TheVariants as told
 use Rattle.nm_rules.specs.declared.owners.OwnerRow.{OwnerRow}
 use Rattle.nm_rules.specs.declared.rows.OpenRow.{OpenRow}
+use Rattle.nm_rules.proofs.Refusals.{lock_keeps}
 
 pub party_cmp-total : IsTotalOrder party_cmp
 party_cmp-total = search (comparing, rules) depth 12
@@ -265,11 +273,89 @@ owners_grow : (word : OwnerWord) (rows : List OwnerRow) → length (owners_after
 unfolding owners_after
 owners_grow Stays rows = omega arith
 owners_grow (Noted row closed) rows = length-put_owner row rows
+owners_grow (Gone owner) rows = omega (arith, length-filter-owners (λ (x : OwnerRow). not (same_owner owner x.owner)) rows)
 owners_grow (GoneOf party) rows = omega (arith, length-filter-owners (λ (x : OwnerRow). not (same_party party x.owner.instance)) rows)
 
--- an event adds at most one open and one owner
+-- ---- an event opens something or starts a lock owner, and not both
+
+lock_opens : (n : Now) (caller : Option Party) (file : ℕ) (args : LockArgs) (value : ReplyValue) → (lock_words n caller file args value).opens ≡ Keep
+lock_opens n caller file args (told.Lock o) = (lock_keeps n caller file args o).opens
+lock_opens n caller file args told.Nothing = refl
+lock_opens n caller file args (told.Access _) = refl
+lock_opens n caller file args (told.Close _) = refl
+lock_opens n caller file args (told.Commit _) = refl
+lock_opens n caller file args (told.Create _) = refl
+lock_opens n caller file args (told.GetAttr _) = refl
+lock_opens n caller file args (told.LockTest _) = refl
+lock_opens n caller file args (told.Lookup _) = refl
+lock_opens n caller file args (told.LookupP _) = refl
+lock_opens n caller file args (told.Open _) = refl
+lock_opens n caller file args (told.OpenConfirm _) = refl
+lock_opens n caller file args (told.OpenDowngrade _) = refl
+lock_opens n caller file args (told.Read _) = refl
+lock_opens n caller file args (told.ReadDir _) = refl
+lock_opens n caller file args (told.ReleaseLockOwner _) = refl
+lock_opens n caller file args (told.Remove _) = refl
+lock_opens n caller file args (told.SetAttr _) = refl
+lock_opens n caller file args (told.Unlock _) = refl
+lock_opens n caller file args (told.Write _) = refl
+
+release_opens : (caller : Option Party) (text : List ℕ) (value : ReplyValue) → (release_words caller text value).opens ≡ Keep
+release_opens caller text value = by_test (is_released value) caller
+  where
+    by_test : (b : Bool) (caller : Option Party) → (cond b (released_words caller text) no_words).opens ≡ Keep
+    by_test false caller = refl
+    by_test true None = refl
+    by_test true (Some party) = refl
+
+one_grows : (n : Now) (call : Call) (r : Reply) (caller : Option Party) (file : ℕ) (d : Deed) (value : ReplyValue)
+    → ((deed_words n caller file d value).opens ≡ Keep) ⊎ (started_by n call r d value ≡ Stays)
+unfolding started_by
+one_grows n call r caller file (deed.Lock args) value = inl (lock_opens n caller file args value)
+one_grows n call r caller file (deed.ReleaseLockOwner args) value = inl (release_opens caller args.owner value)
+one_grows n call r caller file (deed.Access _) value = inr refl
+one_grows n call r caller file (deed.Close _) value = inr refl
+one_grows n call r caller file (deed.Commit _) value = inr refl
+one_grows n call r caller file (deed.Create _) value = inr refl
+one_grows n call r caller file (deed.GetAttr _) value = inr refl
+one_grows n call r caller file (deed.LockTest _) value = inr refl
+one_grows n call r caller file (deed.Lookup _) value = inr refl
+one_grows n call r caller file deed.LookupP value = inr refl
+one_grows n call r caller file (deed.Open _) value = inr refl
+one_grows n call r caller file (deed.OpenConfirm _) value = inr refl
+one_grows n call r caller file (deed.OpenDowngrade _) value = inr refl
+one_grows n call r caller file (deed.Read _) value = inr refl
+one_grows n call r caller file (deed.ReadDir _) value = inr refl
+one_grows n call r caller file (deed.Remove _) value = inr refl
+one_grows n call r caller file (deed.SetAttr _) value = inr refl
+one_grows n call r caller file (deed.Unlock _) value = inr refl
+one_grows n call r caller file (deed.Write _) value = inr refl
+
+words_grow : (word : OpenWord) (start : OwnerWord) (owners : List OwnerRow) (opens : List OpenRow) → (word ≡ Keep) ⊎ (start ≡ Stays)
+    → length (opens_after word opens) + length (owners_after start owners) ≤ length opens + length owners + 1
+unfolding opens_after owners_after
+words_grow word start owners opens (inl keeps) = rw keeps (omega (arith, owners_grow start owners))
+words_grow word start owners opens (inr stays) = rw stays (omega (arith, opens_grow word opens))
+
+-- an event adds at most two opens and owners
 pub rows_grow : (s : Seen) (event : Event) (reply : Reply)
     → length (after s event reply).opens + length (after s event reply).owners ≤ length s.opens + length s.owners + 2
-unfolding after_words
-rows_grow s event reply =
-    omega (arith, opens_grow (words (look s) event reply).opens s.opens, owners_grow (words (look s) event reply).owners s.owners)
+unfolding after_words words
+rows_grow s (Ended party) reply =
+    omega (arith, words_grow (DropOf party) Stays (owners_after (GoneOf party) s.owners) s.opens (inr refl), owners_grow (GoneOf party) s.owners)
+rows_grow s (Asked call verdict) reply = by_acts (acts (look s) call reply)
+  where
+    word : OwnerWord
+    word = owner_word (look s) call reply
+
+    by_acts : (b : Bool)
+        → length (opens_after (cond b (deed_words (look s) call.caller call.file call.deed reply.value) no_words).opens s.opens)
+        + length (owners_after (cond b (started_by (look s) call reply call.deed reply.value) Stays) (owners_after word s.owners)) ≤ length s.opens + length s.owners + 2
+    by_acts true =
+        omega (
+          arith,
+          words_grow (deed_words (look s) call.caller call.file call.deed reply.value).opens (started_by (look s) call reply call.deed reply.value)
+              (owners_after word s.owners) s.opens (one_grows (look s) call reply call.caller call.file call.deed reply.value),
+          owners_grow word s.owners,
+        )
+    by_acts false = omega (arith, words_grow Keep Stays (owners_after word s.owners) s.opens (inr refl), owners_grow word s.owners)

@@ -4,12 +4,13 @@ use Rattle.std.specs.Prelude.{not, is_none, find, filter, option_map, ◌==◌}
 use Rattle.std.specs.List.{list_all}
 use Rattle.std.proofs.lemmas.Bool.{false≢true, true≢false, both_ways}
 use Rattle.nm_rules.specs.Parties.{Party, same_party}
-use Rattle.nm_rules.specs.Owners.{same_owner}
+use Rattle.nm_rules.specs.Owners.{same_kind, same_owner}
+use Rattle.nm_rules.specs.LockOps.{lock_value, changed_lock}
 use Rattle.nm_rules.specs.Seqids.{OwnerWord, advances, is_fresh, seqid_of, owner_at, put_owner, owners_after, closed_after, listed}
-use Rattle.nm_rules.specs.Seqids.OwnerWord.{Stays, Noted, GoneOf}
+use Rattle.nm_rules.specs.Seqids.OwnerWord.{Stays, Noted, Gone, GoneOf}
 use Rattle.nm_rules.specs.Shares.{OpenWord, open_at, opened_row, renewed_row, narrowed_row, put_if, put_open, opens_after}
 use Rattle.nm_rules.specs.Shares.OpenWord.{Keep, Put, Drop, DropOf}
-use Rattle.nm_rules.specs.Past.{Past, Now, Words, no_words, deed_words, noted, noted_row, closed_by, owner_word, judgement, seqid_owner, with_owners, words, is_done, opener, open_words, close_words, confirm_words, downgrade_words}
+use Rattle.nm_rules.specs.Past.{Past, Now, Words, no_words, deed_words, noted, noted_row, closed_by, owner_word, judgement, seqid_owner, with_owners, words, started_by, is_done, opener, open_words, close_words, confirm_words, downgrade_words}
 use Rattle.nm_rules.specs.Seen.{Seen, seen, look, after, after_words}
 use Rattle.nm_rules.specs.Checks.{Stop, first}
 use Rattle.nm_rules.specs.Checks.Stop.{Refuse, Repeat}
@@ -17,8 +18,8 @@ use Rattle.nm_rules.specs.Data.{write_value}
 use Rattle.nm_rules.specs.Files.{create_value}
 use Rattle.nm_rules.specs.Opens.{changed_stateid, next_stateid, open_value}
 use Rattle.nm_rules.specs.Stateids.{open_named}
-use Rattle.nm_rules.specs.Answer.{answer_to, reply_by, reply_with, refused_value, ok_value, checks, IsLegal}
-use Rattle.nm_rules.specs.Sound.{is_known, OwnersAreKnown}
+use Rattle.nm_rules.specs.Answer.{answer_to, reply_by, refused_value, refusal_value, ok_value, checks, IsLegal}
+use Rattle.nm_rules.specs.Sound.{is_known, is_opener, OwnersAreKnown}
 use Rattle.nm_rules.specs.declared.args.OpenArgs.{OpenArgs}
 use Rattle.nm_rules.specs.declared.args.OpenDowngradeArgs.{OpenDowngradeArgs}
 use Rattle.nm_rules.specs.declared.calls.Call.{Call}
@@ -28,6 +29,7 @@ use Rattle.nm_rules.specs.declared.calls.Deed.TheVariants as deed
 use Rattle.nm_rules.specs.declared.calls.Event.{Event}
 use Rattle.nm_rules.specs.declared.calls.Event.TheVariants.{Asked, Ended}
 use Rattle.nm_rules.specs.declared.calls.Owner.{Owner}
+use Rattle.nm_rules.specs.declared.calls.OwnerKind.TheVariants.{Opens}
 use Rattle.nm_rules.specs.declared.calls.Reply.{Reply}
 use Rattle.nm_rules.specs.declared.calls.ReplyValue.TheVariants as told
 use Rattle.nm_rules.specs.declared.calls.Verdict.{Verdict}
@@ -39,7 +41,8 @@ use Rattle.nm_rules.proofs.Legal.{words-free, words-old, words-refused, repeat_i
 use Rattle.nm_rules.proofs.LockRowLaws.{list_all-filter}
 use Rattle.nm_rules.proofs.OpenRows.{and_parts}
 use Rattle.nm_rules.proofs.OwnerLemmas.{same_owner-Decides}
-use Rattle.nm_rules.proofs.OwnerRows.{owner_at-put, owner_at-gone}
+use Rattle.nm_rules.proofs.OwnerRows.{owner_at-put, owner_at-gone, owner_at-without}
+use Rattle.nm_rules.proofs.Refusals.{by_refusal, by_start, lock_keeps, unlock_keeps, release_keeps}
 
 -- ---- owners that move on
 
@@ -47,6 +50,7 @@ use Rattle.nm_rules.proofs.OwnerRows.{owner_at-put, owner_at-gone}
 abbrev Remains : OwnerWord → Type 0
 Remains Stays = Unit {0}
 Remains (Noted row closed) = Unit {0}
+Remains (Gone owner) = ⊥
 Remains (GoneOf party) = ⊥
 
 -- who is known stays known
@@ -58,6 +62,7 @@ known-after (Noted row closed) owners x remains known = rw (owner_at-put row own
     by_test : (b : Bool) → not (is_none (cond b (Some row) (owner_at x.owner owners))) ≡ true
     by_test true = refl
     by_test false = known
+known-after (Gone owner) owners x remains known = absurd remains
 known-after (GoneOf party) owners x remains known = absurd remains
 
 -- who moves on is known
@@ -114,6 +119,7 @@ abbrev ClosedFits : OwnerWord → List OwnerRow → Type 0
 ClosedFits Stays owners = Unit {0}
 ClosedFits (Noted row None) owners = Unit {0}
 ClosedFits (Noted row (Some closed)) owners = is_known (put_owner row owners) closed ≡ true
+ClosedFits (Gone owner) owners = Unit {0}
 ClosedFits (GoneOf party) owners = Unit {0}
 
 opens_known : (word : OpenWord) (owners : List OwnerRow) (rows : List OpenRow) → list_all (is_known owners) rows ≡ true → OpenFits word owners
@@ -139,15 +145,88 @@ closed_known (Noted row closed) owners rows remains known fits =
     new_known : (o : Option OpenRow) → ClosedFits (Noted row o) owners → list_all (is_known (put_owner row owners)) (listed o) ≡ true
     new_known None fits = refl
     new_known (Some x) fits = rw fits refl
+closed_known (Gone owner) owners rows remains known fits = absurd remains
 closed_known (GoneOf party) owners rows remains known fits = absurd remains
 
--- what words leave whose owner moves on, or doesn't
+-- ---- lock owners that start, or are released
+
+-- a lock owner is no owner of opens
+apart_owner : (owner its : Owner) → same_kind owner.kind Opens ≡ false → same_kind its.kind Opens ≡ true → same_owner its owner ≡ false
+apart_owner owner its locks opens = by_test (same_owner its owner) refl
+  where
+    by_test : (b : Bool) → same_owner its owner ≡ b → b ≡ false
+    by_test false other = refl
+    by_test true same = absurd (both_ways (same_kind owner.kind Opens) locks (subst (λ (o : Owner). same_kind o.kind Opens ≡ true) ((same_owner-Decides its owner).0 same) opens))
+
+-- the word by which one starts or is released
+abbrev StartFits : OwnerWord → Type 0
+StartFits Stays = Unit {0}
+StartFits (Noted row None) = Unit {0}
+StartFits (Noted row (Some closed)) = ⊥
+StartFits (Gone owner) = same_kind owner.kind Opens ≡ false
+StartFits (GoneOf party) = ⊥
+
+without_known : (owner : Owner) (owners : List OwnerRow) (rows : List OpenRow) → same_kind owner.kind Opens ≡ false → list_all is_opener rows ≡ true
+    → list_all (is_known owners) rows ≡ true → list_all (is_known (filter (λ o. not (same_owner owner o.owner)) owners)) rows ≡ true
+without_known owner owners [] locks kinds known = refl
+without_known owner owners (x ∷ xs) locks kinds known =
+    let kind = and_parts (is_opener x) (list_all is_opener xs) kinds in
+    let parts = and_parts (is_known owners x) (list_all (is_known owners) xs) known in
+    let stays : is_known (filter (λ o. not (same_owner owner o.owner)) owners) x ≡ true =
+    rw (owner_at-without owner owners x.owner, apart_owner owner x.owner locks kind.0) parts.0 in
+    rw (stays, without_known owner owners xs locks kind.1 parts.1) refl
+
+swept_known : (owner : Owner) (owners : List OwnerRow) (rows : List OpenRow) → list_all (is_known owners) rows ≡ true
+    → list_all (is_known (filter (λ o. not (same_owner owner o.owner)) owners)) (filter (λ x. not (same_owner owner x.owner)) rows) ≡ true
+swept_known owner owners [] known = refl
+swept_known owner owners (x ∷ xs) known =
+    by_test (same_owner owner x.owner) (same_owner x.owner owner) refl refl (swept_known owner owners xs (and_parts (is_known owners x) (list_all (is_known owners) xs) known).1)
+  where
+    left : List OwnerRow
+    left = filter (λ o. not (same_owner owner o.owner)) owners
+
+    rest : List OpenRow
+    rest = filter (λ y. not (same_owner owner y.owner)) xs
+
+    by_test : (b c : Bool) → same_owner owner x.owner ≡ b → same_owner x.owner owner ≡ c → list_all (is_known left) rest ≡ true
+        → list_all (is_known left) (cond (not b) (x ∷ rest) rest) ≡ true
+    by_test true c its same later = later
+    by_test false true other same later =
+        absurd (both_ways (same_owner owner x.owner) other ((same_owner-Decides owner x.owner).1 (sym ((same_owner-Decides x.owner owner).0 same))))
+    by_test false false other not_same later = rw (stays_known, later) refl
+      where
+        stays_known : is_known left x ≡ true
+        stays_known = rw (owner_at-without owner owners x.owner, not_same) (and_parts (is_known owners x) (list_all (is_known owners) xs) known).0
+
+start_opens : (word : OwnerWord) (owners : List OwnerRow) (rows : List OpenRow) → StartFits word → list_all is_opener rows ≡ true
+    → list_all (is_known owners) rows ≡ true → list_all (is_known (owners_after word owners)) rows ≡ true
+unfolding owners_after
+start_opens Stays owners rows fits kinds known = known
+start_opens (Noted row None) owners rows fits kinds known = all_known (Noted row None) owners rows tt known
+start_opens (Noted row (Some closed)) owners rows fits kinds known = absurd fits
+start_opens (Gone owner) owners rows fits kinds known = without_known owner owners rows fits kinds known
+start_opens (GoneOf party) owners rows fits kinds known = absurd fits
+
+start_closed : (word : OwnerWord) (owners : List OwnerRow) (rows : List OpenRow) → StartFits word
+    → list_all (is_known owners) rows ≡ true → list_all (is_known (owners_after word owners)) (closed_after word rows) ≡ true
+unfolding owners_after closed_after
+start_closed Stays owners rows fits known = known
+start_closed (Noted row None) owners rows fits known = closed_known (Noted row None) owners rows tt known tt
+start_closed (Noted row (Some closed)) owners rows fits known = absurd fits
+start_closed (Gone owner) owners rows fits known = swept_known owner owners rows known
+start_closed (GoneOf party) owners rows fits known = absurd fits
+
+-- what words leave whose owner moves on, or doesn't, and by which a lock owner starts or is released
 known-words : (s : Seen) (w : Words) → OwnersAreKnown s → Remains w.owners → OpenFits w.opens (owners_after w.owners s.owners) → ClosedFits w.owners s.owners
+    → StartFits w.starts → list_all is_opener (opens_after w.opens s.opens) ≡ true
     → OwnersAreKnown (after_words s w)
 unfolding after_words
-known-words s w known remains fits closed = record {
-  opens = opens_known w.opens (owners_after w.owners s.owners) s.opens (all_known w.owners s.owners s.opens remains known.opens) fits;
-  closed = closed_known w.owners s.owners s.closed remains known.closed closed;
+known-words s w known remains fits closed start kinds = record {
+  kinds = kinds;
+  opens = start_opens w.starts (owners_after w.owners s.owners) (opens_after w.opens s.opens) start kinds
+      (opens_known w.opens (owners_after w.owners s.owners) s.opens (all_known w.owners s.owners s.opens remains known.opens) fits);
+  closed = start_closed w.starts (owners_after w.owners s.owners) (closed_after w.owners s.closed) start
+      (closed_known w.owners s.owners s.closed remains known.closed closed);
 }
 
 -- ---- an instance's end
@@ -199,6 +278,8 @@ refused_closes n (deed.Close _) = refl
 refused_closes n (deed.Commit _) = refl
 refused_closes n (deed.Create _) = refl
 refused_closes n (deed.GetAttr _) = refl
+refused_closes n (deed.Lock _) = refl
+refused_closes n (deed.LockTest _) = refl
 refused_closes n (deed.Lookup _) = refl
 refused_closes n deed.LookupP = refl
 refused_closes n (deed.Open _) = refl
@@ -206,9 +287,16 @@ refused_closes n (deed.OpenConfirm _) = refl
 refused_closes n (deed.OpenDowngrade _) = refl
 refused_closes n (deed.Read _) = refl
 refused_closes n (deed.ReadDir _) = refl
+refused_closes n (deed.ReleaseLockOwner _) = refl
 refused_closes n (deed.Remove _) = refl
 refused_closes n (deed.SetAttr _) = refl
+refused_closes n (deed.Unlock _) = refl
 refused_closes n (deed.Write _) = refl
+
+pub refusal_closes : (s : Seen) (caller : Option Party) (file : ℕ) (d : Deed) (status : OpStatus) → closed_by (look s) d (refusal_value s caller file d status) ≡ None
+unfolding closed_by
+refusal_closes s caller file d status =
+    by_refusal (λ its_deed value. closed_by (look s) its_deed value ≡ None) (refused_closes (look s)) (λ args o. refl) (λ args o. refl) s caller file d status
 
 -- what an owner's word closes is known where the open that the call names is
 noted_closes : (n : Now) (call : Call) (r : Reply) (owners : List OwnerRow) (o : Option Owner)
@@ -235,17 +323,20 @@ noted_closes n call r owners (Some owner) each = by_test (advances r.status)
     by_test true = by_closed (closed_by n call.deed r.value) refl
     by_test false = tt
 
-refused_fits : (s : Seen) (call : Call) (status : OpStatus) → ClosedFits (owner_word (look s) call (reply_with status (refused_value call.deed))) s.owners
+refused_fits : (s : Seen) (call : Call) (status : OpStatus) → ClosedFits (owner_word (look s) call (reply_by s call (Some (Refuse status)))) s.owners
 refused_fits s call status = by_test (is_fresh (judgement (look s) call))
   where
-    none_closed : (x : OpenRow) → closed_by (look s) call.deed (refused_value call.deed) ≡ Some x → is_known s.owners x ≡ true
-    none_closed x found = absurd (never (sym (refused_closes (look s) call.deed) ∙ found))
+    r : Reply
+    r = reply_by s call (Some (Refuse status))
+
+    none_closed : (x : OpenRow) → closed_by (look s) call.deed r.value ≡ Some x → is_known s.owners x ≡ true
+    none_closed x found = absurd (never (sym (refusal_closes s call.caller call.file call.deed status) ∙ found))
       where
         never : {a : OpenRow} → None ≡ Some a → ⊥
         never e = cc
 
-    by_test : (b : Bool) → ClosedFits (cond b (noted (look s) call (reply_with status (refused_value call.deed)) (seqid_owner (look s) call.caller call.deed)) Stays) s.owners
-    by_test true = noted_closes (look s) call (reply_with status (refused_value call.deed)) s.owners (seqid_owner (look s) call.caller call.deed) none_closed
+    by_test : (b : Bool) → ClosedFits (cond b (noted (look s) call r (seqid_owner (look s) call.caller call.deed)) Stays) s.owners
+    by_test true = noted_closes (look s) call r s.owners (seqid_owner (look s) call.caller call.deed) none_closed
     by_test false = tt
 
 -- the open that an operation on an open puts or closes is one that is there, with another seqid or share
@@ -305,6 +396,9 @@ open_fits s party file args call r known done =
     (sym (noted_done (look s) call r (opener party args) done))
     (opened_fits s (opener party args) (noted_row ((look s).owner_by (opener party args)) (opener party args) (seqid_of call.deed) call r) refl known _ _ args.access args.deny)
 
+open_as : (word its : OpenWord) (owners : List OwnerRow) → word ≡ its → OpenFits its owners → OpenFits word owners
+open_as word its owners same fits = subst (λ (w : OpenWord). OpenFits w owners) (sym same) fits
+
 -- The words of a call that nothing stops.
 goes_fits : (s : Seen) (caller : Option Party) (file : ℕ) (d : Deed) (call : Call) (r : Reply) → OwnersAreKnown s → r.status ≡ Nfs4Ok
     → OpenFits (deed_words (look s) caller file d (ok_value s caller file d)).opens (owners_after (noted (look s) call r (seqid_owner (look s) caller d)) s.owners)
@@ -314,6 +408,9 @@ goes_fits s caller file (deed.Close args) call r known done = close_fits (look s
 goes_fits s caller file (deed.Commit _) call r known done = tt
 goes_fits s caller file (deed.Create args) call r known done = tt
 goes_fits s caller file (deed.GetAttr _) call r known done = tt
+goes_fits s caller file (deed.Lock args) call r known done =
+    open_as _ Keep (owners_after (noted (look s) call r (seqid_owner (look s) caller (deed.Lock args))) s.owners) (lock_keeps (look s) caller file args (lock_value s args)).opens tt
+goes_fits s caller file (deed.LockTest _) call r known done = tt
 goes_fits s caller file (deed.Lookup _) call r known done = tt
 goes_fits s caller file deed.LookupP call r known done = tt
 goes_fits s None file (deed.Open args) call r known done = tt
@@ -324,9 +421,79 @@ goes_fits s caller file (deed.OpenDowngrade args) call r known done =
     downgrade_fits s known (noted (look s) call r (seqid_owner (look s) caller (deed.OpenDowngrade args))) (noted_remains (look s) call r _) args (open_named s args.stateid)
 goes_fits s caller file (deed.Read _) call r known done = tt
 goes_fits s caller file (deed.ReadDir _) call r known done = tt
+goes_fits s caller file (deed.ReleaseLockOwner args) call r known done =
+    open_as _ Keep (owners_after (noted (look s) call r (seqid_owner (look s) caller (deed.ReleaseLockOwner args))) s.owners) (release_keeps caller args.owner true).opens tt
 goes_fits s caller file (deed.Remove args) call r known done = tt
 goes_fits s caller file (deed.SetAttr args) call r known done = tt
+goes_fits s caller file (deed.Unlock args) call r known done =
+    open_as _ Keep (owners_after (noted (look s) call r (seqid_owner (look s) caller (deed.Unlock args))) s.owners) (unlock_keeps (look s) args (changed_lock s args.stateid)).opens tt
 goes_fits s caller file (deed.Write args) call r known done = tt
+
+-- an open that is put has an owner of opens
+abbrev KindFits : OpenWord → Type 0
+KindFits Keep = Unit {0}
+KindFits (Put row) = is_opener row ≡ true
+KindFits (Drop counter) = Unit {0}
+KindFits (DropOf party) = Unit {0}
+
+kinds_known : (word : OpenWord) (rows : List OpenRow) → list_all is_opener rows ≡ true → KindFits word → list_all is_opener (opens_after word rows) ≡ true
+unfolding opens_after
+kinds_known Keep rows kinds fits = kinds
+kinds_known (Put row) rows kinds fits = all_put is_opener row rows kinds fits
+kinds_known (Drop counter) rows kinds fits = list_all-filter is_opener (λ x. not (x.counter == counter)) rows kinds
+kinds_known (DropOf party) rows kinds fits = list_all-filter is_opener (λ x. not (same_party party x.owner.instance)) rows kinds
+
+put_kind : (change : OpenRow → OpenRow) → ((x : OpenRow) → (change x).owner ≡ x.owner) → (rows : List OpenRow) → list_all is_opener rows ≡ true
+    → (k : ℕ) → KindFits (put_if (option_map change (open_at k rows)))
+put_kind change keeps rows kinds k = by_row (open_at k rows) refl
+  where
+    by_row : (o : Option OpenRow) → open_at k rows ≡ o → KindFits (put_if (option_map change o))
+    by_row None none = tt
+    by_row (Some x) found = subst (λ (o : Owner). same_kind o.kind Opens ≡ true) (sym (keeps x)) (all_at is_opener k rows x kinds found)
+
+opened_kind : (rows : List OpenRow) (owner : Owner) → same_kind owner.kind Opens ≡ true → list_all is_opener rows ≡ true → (k file access deny : ℕ)
+    → is_opener (opened_row (open_at k rows) k file owner access deny) ≡ true
+unfolding opened_row
+opened_kind rows owner its kinds k file access deny = by_row (open_at k rows) refl
+  where
+    by_row : (o : Option OpenRow) → open_at k rows ≡ o → is_opener (opened_row o k file owner access deny) ≡ true
+    by_row None none = its
+    by_row (Some x) found = all_at is_opener k rows x kinds found
+
+goes_kind : (s : Seen) (caller : Option Party) (file : ℕ) (d : Deed) → list_all is_opener s.opens ≡ true → KindFits (deed_words (look s) caller file d (ok_value s caller file d)).opens
+unfolding create_value write_value changed_stateid open_value look
+goes_kind s caller file (deed.Access _) kinds = tt
+goes_kind s caller file (deed.Close args) kinds = by_told (option_map (next_stateid s.fs) (open_named s args.stateid))
+  where
+    by_told : (o : Option StateId) → KindFits (close_words (told.Close o)).opens
+    by_told None = tt
+    by_told (Some id) = tt
+goes_kind s caller file (deed.Commit _) kinds = tt
+goes_kind s caller file (deed.Create args) kinds = tt
+goes_kind s caller file (deed.GetAttr _) kinds = tt
+goes_kind s caller file (deed.Lock args) kinds = subst KindFits (sym (lock_keeps (look s) caller file args (lock_value s args)).opens) tt
+goes_kind s caller file (deed.LockTest _) kinds = tt
+goes_kind s caller file (deed.Lookup _) kinds = tt
+goes_kind s caller file deed.LookupP kinds = tt
+goes_kind s None file (deed.Open args) kinds = tt
+goes_kind s (Some party) file (deed.Open args) kinds = opened_kind s.opens (opener party args) refl kinds _ _ args.access args.deny
+goes_kind s caller file (deed.OpenConfirm args) kinds = by_row (open_named s args.stateid)
+  where
+    by_row : (o : Option OpenRow) → KindFits (confirm_words (look s) (told.OpenConfirm (option_map (next_stateid s.fs) o))).opens
+    by_row None = tt
+    by_row (Some x) = put_kind renewed_row (λ y. refl) s.opens kinds x.counter
+goes_kind s caller file (deed.OpenDowngrade args) kinds = by_row (open_named s args.stateid)
+  where
+    by_row : (o : Option OpenRow) → KindFits (downgrade_words (look s) args (told.OpenDowngrade (option_map (next_stateid s.fs) o))).opens
+    by_row None = tt
+    by_row (Some x) = put_kind (narrowed_row args.access args.deny) (λ y. refl) s.opens kinds x.counter
+goes_kind s caller file (deed.Read _) kinds = tt
+goes_kind s caller file (deed.ReadDir _) kinds = tt
+goes_kind s caller file (deed.ReleaseLockOwner args) kinds = subst KindFits (sym (release_keeps caller args.owner true).opens) tt
+goes_kind s caller file (deed.Remove args) kinds = tt
+goes_kind s caller file (deed.SetAttr args) kinds = tt
+goes_kind s caller file (deed.Unlock args) kinds = subst KindFits (sym (unlock_keeps (look s) args (changed_lock s args.stateid)).opens) tt
+goes_kind s caller file (deed.Write args) kinds = tt
 
 -- what it closes was there
 goes_closes : (s : Seen) (caller : Option Party) (file : ℕ) (d : Deed) → OwnersAreKnown s → (x : OpenRow)
@@ -349,6 +516,8 @@ goes_closes s caller file (deed.Close args) known x found = by_row (open_named s
 goes_closes s caller file (deed.Commit _) known x found = cc
 goes_closes s caller file (deed.Create args) known x found = cc
 goes_closes s caller file (deed.GetAttr _) known x found = cc
+goes_closes s caller file (deed.Lock _) known x found = cc
+goes_closes s caller file (deed.LockTest _) known x found = cc
 goes_closes s caller file (deed.Lookup _) known x found = cc
 goes_closes s caller file deed.LookupP known x found = cc
 goes_closes s caller file (deed.Open args) known x found = cc
@@ -356,31 +525,40 @@ goes_closes s caller file (deed.OpenConfirm args) known x found = cc
 goes_closes s caller file (deed.OpenDowngrade args) known x found = cc
 goes_closes s caller file (deed.Read _) known x found = cc
 goes_closes s caller file (deed.ReadDir _) known x found = cc
+goes_closes s caller file (deed.ReleaseLockOwner args) known x found = cc
 goes_closes s caller file (deed.Remove args) known x found = cc
 goes_closes s caller file (deed.SetAttr args) known x found = cc
+goes_closes s caller file (deed.Unlock args) known x found = cc
 goes_closes s caller file (deed.Write args) known x found = cc
 
 known-event : (s : Seen) (event : Event) → OwnersAreKnown s → OwnersAreKnown (after s event (answer_to s event))
 unfolding answer_to words after_words opens_after owners_after closed_after
 known-event s (Ended party) known = record {
+  kinds = list_all-filter is_opener (λ x. not (same_party party x.owner.instance)) s.opens known.kinds;
   opens = gone_known party s.owners s.opens known.opens;
   closed = gone_known party s.owners s.closed known.closed;
 }
 known-event s (Asked call verdict) known = by_stop (first (checks s call.caller call.file verdict call.deed)) refl
   where
     by_stop : (x : Option Stop) → first (checks s call.caller call.file verdict call.deed) ≡ x → OwnersAreKnown (after s (Asked call verdict) (reply_by s call x))
-    by_stop (Some (Refuse status)) refused = subst (λ w. OwnersAreKnown (after_words s w)) (sym (words-refused (look s) call verdict status))
-        (known-words s (with_owners no_words (owner_word (look s) call (reply_with status (refused_value call.deed)))) known (word_remains (look s) call (reply_with status (refused_value call.deed))) tt (refused_fits s call status))
+    by_stop (Some (Refuse status)) refused = subst (λ w. OwnersAreKnown (after_words s w)) (sym (words-refused s call verdict status))
+        (known-words s (with_owners no_words (owner_word (look s) call (reply_by s call (Some (Refuse status)))) Stays) known
+        (word_remains (look s) call (reply_by s call (Some (Refuse status)))) tt (refused_fits s call status) tt known.kinds)
     by_stop (Some (Repeat kept)) repeats = subst (λ w. OwnersAreKnown (after_words s w)) (sym (words-old (look s) call verdict kept (repeat_is_old s call verdict kept repeats)))
-        (known-words s no_words known tt tt tt)
+        (known-words s no_words known tt tt tt tt known.kinds)
     by_stop None goes = subst (λ w. OwnersAreKnown (after_words s w)) (sym (words-free s call verdict goes))
-        (known-words s (with_owners (deed_words (look s) call.caller call.file call.deed (ok_value s call.caller call.file call.deed)) (noted (look s) call (reply_by s call None) (seqid_owner (look s) call.caller call.deed))) known
+        (known-words s (with_owners (deed_words (look s) call.caller call.file call.deed (ok_value s call.caller call.file call.deed))
+        (noted (look s) call (reply_by s call None) (seqid_owner (look s) call.caller call.deed))
+        (started_by (look s) call (reply_by s call None) call.deed (ok_value s call.caller call.file call.deed))) known
         (noted_remains (look s) call (reply_by s call None) (seqid_owner (look s) call.caller call.deed))
         (goes_fits s call.caller call.file call.deed call (reply_by s call None) known refl)
-        (noted_closes (look s) call (reply_by s call None) s.owners (seqid_owner (look s) call.caller call.deed) (goes_closes s call.caller call.file call.deed known)))
+        (noted_closes (look s) call (reply_by s call None) s.owners (seqid_owner (look s) call.caller call.deed) (goes_closes s call.caller call.file call.deed known))
+        (by_start StartFits s call (reply_by s call None) tt (λ party text seqid args it. tt) (λ party text. refl) call.caller call.file call.deed refl)
+        (kinds_known (deed_words (look s) call.caller call.file call.deed (ok_value s call.caller call.file call.deed)).opens s.opens known.kinds
+        (goes_kind s call.caller call.file call.deed known.kinds)))
 
 pub known-seen : (fs : ℕ) (grants : Bool) (es : Past) → IsLegal fs grants es → OwnersAreKnown (seen fs grants es)
 unfolding seen
-known-seen fs grants [] legal = record { opens = refl; closed = refl }
+known-seen fs grants [] legal = record { kinds = refl; opens = refl; closed = refl }
 known-seen fs grants (x ∷ earlier) legal =
     rw legal.0 (known-event (seen fs grants earlier) x.event (known-seen fs grants earlier legal.1))

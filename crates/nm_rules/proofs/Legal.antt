@@ -22,11 +22,11 @@ use Rattle.nm_rules.specs.Checks.Stop.{Refuse, Repeat}
 use Rattle.nm_rules.specs.Data.{read_checks, write_checks, write_value, setattr_checks, size_checks, mode_checks, commit_checks}
 use Rattle.nm_rules.specs.Files.{file_checks, dir_checks, lookup_checks, create_checks, create_value, remove_checks, readdir_checks}
 use Rattle.nm_rules.specs.Opens.{open_checks, GoesOpen, open_value, close_checks, confirm_checks, downgrade_checks, changed_stateid, next_stateid, is_narrower, row_to_open, file_to_open, target, target_at, claim_arguments, open_fault, claim_fault, is_share, open_limit, tree_limit}
-use Rattle.nm_rules.specs.LockOps.{lock_value, locked_stateid, changed_lock, next_lock_stateid, lock_checks, test_checks, unlock_checks, release_checks, new_checks, known_checks, newcomer_stop, lock_denied, test_denied}
+use Rattle.nm_rules.specs.LockOps.{lock_value, locked_stateid, changed_lock, next_lock_stateid, lock_checks, test_checks, unlock_checks, release_checks, new_checks, known_checks}
 use Rattle.nm_rules.specs.LockRows.{LockWord, lock_at}
 use Rattle.nm_rules.specs.LockRows.LockWord.{ClosedWith, EndedOf}
 use Rattle.nm_rules.specs.Stateids.{open_named, lock_named, resolved, unresolved_at, lock_unresolved, owner_stop, owner_stop_at, lock_owner_stop_at, judged_stop}
-use Rattle.nm_rules.specs.Answer.{answer_to, reply_by, reply_with, refused_value, refusal_value, denied_value, is_denial, ok_value, checks, IsLegal}
+use Rattle.nm_rules.specs.Answer.{answer_to, reply_by, reply_with, refused_value, refusal_value, ok_value, checks, IsLegal}
 use Rattle.nm_rules.specs.Sound.{IsSound, rises, all_apart, files_rise}
 use Rattle.nm_rules.specs.declared.args.CreateArgs.{CreateArgs}
 use Rattle.nm_rules.specs.declared.args.OpenArgs.{OpenArgs}
@@ -67,6 +67,7 @@ use Rattle.nm_rules.proofs.NameRows.{NamesNew, names-after}
 use Rattle.nm_rules.proofs.OpenRows.{and_parts, open_at-past, open_at-in, in-open_at, rises-filter, rises-higher, rises-put_new, rises-put_old}
 use Rattle.nm_rules.proofs.Apart.{all_apart-filter, all_apart-put, opened_suits, renewed_suits, narrowed_suits, open_of-in, Suits}
 use Rattle.nm_rules.proofs.Looks.{look-after_words}
+use Rattle.nm_rules.proofs.Refusals.{by_refusal}
 
 -- what an OPEN that no row opposes puts, by the counter that it answers
 abbrev pub put_row : List OpenRow → ℕ → Owner → ℕ → ℕ → ℕ → OpenRow
@@ -118,7 +119,7 @@ opened_sound last rows owner file access deny rising apart free (Some old) found
 
 -- ---- what nothing stops
 
-no_or : (a b : Bool) → (a || b) ≡ false → (a ≡ false) × (b ≡ false)
+pub no_or : (a b : Bool) → (a || b) ≡ false → (a ≡ false) × (b ≡ false)
 no_or false b h = (refl, h)
 no_or true b h = absurd (true≢false h)
 
@@ -344,33 +345,9 @@ test_says : (n : Now) (call : Call) (r : Reply) (args : LockTestArgs) (o : Optio
 unfolding started_by
 test_says n call r args o = record { changes = λ b caller. either_way b no_words; starts = λ b. either_way b Stays }
 
-denied_says : (s : Seen) (call : Call) (r : Reply) (caller : Option Party) (file : ℕ) (d : Deed) → SaysNothing (look s) call r d (denied_value s caller file d)
-denied_says s call r caller file (deed.Lock args) = denial_says (look s) call r args (lock_denied s file args)
-denied_says s call r caller file (deed.LockTest args) = test_says (look s) call r args (test_denied s caller file args)
-denied_says s call r caller file (deed.Access args) = refused_says (look s) call r (deed.Access args)
-denied_says s call r caller file (deed.Close args) = refused_says (look s) call r (deed.Close args)
-denied_says s call r caller file (deed.Commit args) = refused_says (look s) call r (deed.Commit args)
-denied_says s call r caller file (deed.Create args) = refused_says (look s) call r (deed.Create args)
-denied_says s call r caller file (deed.GetAttr args) = refused_says (look s) call r (deed.GetAttr args)
-denied_says s call r caller file (deed.Lookup args) = refused_says (look s) call r (deed.Lookup args)
-denied_says s call r caller file deed.LookupP = refused_says (look s) call r deed.LookupP
-denied_says s call r caller file (deed.Open args) = refused_says (look s) call r (deed.Open args)
-denied_says s call r caller file (deed.OpenConfirm args) = refused_says (look s) call r (deed.OpenConfirm args)
-denied_says s call r caller file (deed.OpenDowngrade args) = refused_says (look s) call r (deed.OpenDowngrade args)
-denied_says s call r caller file (deed.Read args) = refused_says (look s) call r (deed.Read args)
-denied_says s call r caller file (deed.ReadDir args) = refused_says (look s) call r (deed.ReadDir args)
-denied_says s call r caller file (deed.ReleaseLockOwner args) = refused_says (look s) call r (deed.ReleaseLockOwner args)
-denied_says s call r caller file (deed.Remove args) = refused_says (look s) call r (deed.Remove args)
-denied_says s call r caller file (deed.SetAttr args) = refused_says (look s) call r (deed.SetAttr args)
-denied_says s call r caller file (deed.Unlock args) = refused_says (look s) call r (deed.Unlock args)
-denied_says s call r caller file (deed.Write args) = refused_says (look s) call r (deed.Write args)
-
 refusal_says : (s : Seen) (call : Call) (r : Reply) (status : OpStatus) → SaysNothing (look s) call r call.deed (refusal_value s call.caller call.file call.deed status)
-refusal_says s call r status = by_denial (is_denial status)
-  where
-    by_denial : (b : Bool) → SaysNothing (look s) call r call.deed (cond b (denied_value s call.caller call.file call.deed) (refused_value call.deed))
-    by_denial true = denied_says s call r call.caller call.file call.deed
-    by_denial false = refused_says (look s) call r call.deed
+refusal_says s call r status = by_refusal (λ d value. SaysNothing (look s) call r d value)
+    (refused_says (look s) call r) (denial_says (look s) call r) (test_says (look s) call r) s call.caller call.file call.deed status
 
 pub words-refused : (s : Seen) (call : Call) (verdict : Verdict) (status : OpStatus)
     → words (look s) (Asked call verdict) (reply_by s call (Some (Refuse status)))

@@ -22,6 +22,7 @@ pub mod RangeBytes
 pub mod RangeLaws
 pub mod RangeRows
 pub mod RangeSame
+pub mod Refusals
 pub mod RowLimit
 pub mod SeqidLaws
 pub mod ShareLaws

@@ -19,6 +19,7 @@ use Rattle.nm_rules.specs.Seen.{Seen, seen, look, after, after_words}
 use Rattle.nm_rules.specs.Answer.{IsLegal, answer_to, reply_by, ok_value, checks}
 use Rattle.nm_rules.specs.Data.{setattr_checks, size_checks, mode_checks, set_limit, write_checks, write_limit, write_value, written_size}
 use Rattle.nm_rules.specs.Files.{changes_past_end, create_checks, create_value, fills_up, makes_past_end, size_of, sized_limit}
+use Rattle.nm_rules.specs.LockOps.{lock_value, changed_lock}
 use Rattle.nm_rules.specs.Opens.{changed_stateid, next_stateid, open_checks, open_limit, open_value, target, target_at, tree_limit}
 use Rattle.nm_rules.specs.Stateids.{open_named}
 use Rattle.nm_rules.specs.Sound.{IsSound, files_rise, fits_size, FilesFit}
@@ -44,6 +45,7 @@ use Rattle.nm_rules.proofs.FileRows.{file_at-below}
 use Rattle.nm_rules.proofs.Legal.{claimed_is_target, sound-seen, words-free, words-old, words-refused, repeat_is_old}
 use Rattle.nm_rules.proofs.LockRowLaws.{list_all-filter}
 use Rattle.nm_rules.proofs.OpenRows.{and_parts}
+use Rattle.nm_rules.proofs.Refusals.{lock_keeps, unlock_keeps, release_keeps}
 
 -- ---- changes that keep the bytes
 
@@ -398,6 +400,8 @@ tree_fits s caller file verdict (deed.Close args) limits goes = by_told (option_
 tree_fits s caller file verdict (deed.Commit _) limits goes = tt
 tree_fits s caller file verdict (deed.Create args) limits goes = create_fits s file args verdict limits goes
 tree_fits s caller file verdict (deed.GetAttr _) limits goes = tt
+tree_fits s caller file verdict (deed.Lock args) limits goes = subst (λ word. LimitsFit word s.tree) (sym (lock_keeps (look s) caller file args (lock_value s args)).tree) tt
+tree_fits s caller file verdict (deed.LockTest _) limits goes = tt
 tree_fits s caller file verdict (deed.Lookup _) limits goes = tt
 tree_fits s caller file verdict deed.LookupP limits goes = tt
 tree_fits s None file verdict (deed.Open _) limits goes = tt
@@ -414,8 +418,10 @@ tree_fits s caller file verdict (deed.OpenDowngrade args) limits goes = by_told 
     by_told (Some id) = tt
 tree_fits s caller file verdict (deed.Read _) limits goes = tt
 tree_fits s caller file verdict (deed.ReadDir _) limits goes = tt
+tree_fits s caller file verdict (deed.ReleaseLockOwner args) limits goes = subst (λ word. LimitsFit word s.tree) (sym (release_keeps caller args.owner true).tree) tt
 tree_fits s caller file verdict (deed.Remove _) limits goes = tt
 tree_fits s caller file verdict (deed.SetAttr args) limits goes = set_fits s file args _ limits (setattr_free s caller file args verdict goes)
+tree_fits s caller file verdict (deed.Unlock args) limits goes = subst (λ word. LimitsFit word s.tree) (sym (unlock_keeps (look s) args (changed_lock s args.stateid)).tree) tt
 tree_fits s caller file verdict (deed.Write args) limits goes = write_fits s caller file args verdict limits goes
 
 limits-event : (s : Seen) (event : Event) → IsSound s → FilesFit s.tree → FilesFit (after s event (answer_to s event)).tree
@@ -424,7 +430,7 @@ limits-event s (Ended party) sound limits = limits
 limits-event s (Asked call verdict) sound limits = by_stop (first (checks s call.caller call.file verdict call.deed)) refl
   where
     by_stop : (x : Option Stop) → first (checks s call.caller call.file verdict call.deed) ≡ x → FilesFit (after s (Asked call verdict) (reply_by s call x)).tree
-    by_stop (Some (Refuse status)) refused = subst (λ w. FilesFit (after_words s w).tree) (sym (words-refused (look s) call verdict status)) limits
+    by_stop (Some (Refuse status)) refused = subst (λ w. FilesFit (after_words s w).tree) (sym (words-refused s call verdict status)) limits
     by_stop (Some (Repeat kept)) repeats = subst (λ w. FilesFit (after_words s w).tree) (sym (words-old (look s) call verdict kept (repeat_is_old s call verdict kept repeats))) limits
     by_stop None goes = subst (λ w. FilesFit (after_words s w).tree) (sym (words-free s call verdict goes))
         (limits-after (deed_words (look s) call.caller call.file call.deed (ok_value s call.caller call.file call.deed)).tree s.tree sound.numbers

@@ -19,6 +19,7 @@ use Rattle.nm_rules.specs.Seen.{Seen, seen, look, after, after_words}
 use Rattle.nm_rules.specs.Answer.{IsLegal, answer_to, reply_by, ok_value, checks}
 use Rattle.nm_rules.specs.Data.{write_value}
 use Rattle.nm_rules.specs.Files.{create_checks, create_value, dir_checks, file_checks, has_entries, remove_checks, remove_conflict}
+use Rattle.nm_rules.specs.LockOps.{lock_value, changed_lock}
 use Rattle.nm_rules.specs.Opens.{changed_stateid, next_stateid, open_checks, open_kind, open_value, target_at}
 use Rattle.nm_rules.specs.Stateids.{open_named}
 use Rattle.nm_rules.specs.Sound.{IsSound, files_rise, names_apart, all_named_apart, stands_in, all_stand_in}
@@ -43,6 +44,7 @@ use Rattle.nm_rules.proofs.Legal.{claimed_is_target, sound-seen, words-free, wor
 use Rattle.nm_rules.proofs.OpenRows.{and_parts}
 use Rattle.nm_rules.proofs.FileRows.{Keeps, stamped_keeps, edited_keeps, file_at-map, file_at-push, file_at-removed, kept_by}
 use Rattle.nm_rules.proofs.LockRowLaws.{list_all-filter, not-true, same_number}
+use Rattle.nm_rules.proofs.Refusals.{lock_keeps, unlock_keeps, release_keeps}
 
 -- ---- changes that keep what rows are found by, and of which kind they are
 
@@ -330,6 +332,8 @@ tree_fits s caller file verdict (deed.Close args) goes = by_told (option_map (ne
 tree_fits s caller file verdict (deed.Commit _) goes = tt
 tree_fits s caller file verdict (deed.Create args) goes = create_fits s file args verdict goes
 tree_fits s caller file verdict (deed.GetAttr _) goes = tt
+tree_fits s caller file verdict (deed.Lock args) goes = subst (λ word. ParentsFit word s.tree.table) (sym (lock_keeps (look s) caller file args (lock_value s args)).tree) tt
+tree_fits s caller file verdict (deed.LockTest _) goes = tt
 tree_fits s caller file verdict (deed.Lookup _) goes = tt
 tree_fits s caller file verdict deed.LookupP goes = tt
 tree_fits s None file verdict (deed.Open _) goes = tt
@@ -346,8 +350,10 @@ tree_fits s caller file verdict (deed.OpenDowngrade args) goes = by_told (option
     by_told (Some id) = tt
 tree_fits s caller file verdict (deed.Read _) goes = tt
 tree_fits s caller file verdict (deed.ReadDir _) goes = tt
+tree_fits s caller file verdict (deed.ReleaseLockOwner args) goes = subst (λ word. ParentsFit word s.tree.table) (sym (release_keeps caller args.owner true).tree) tt
 tree_fits s caller file verdict (deed.Remove args) goes = remove_fits s file args verdict goes
 tree_fits s caller file verdict (deed.SetAttr args) goes = set_fits _ file s.tree.table args _
+tree_fits s caller file verdict (deed.Unlock args) goes = subst (λ word. ParentsFit word s.tree.table) (sym (unlock_keeps (look s) args (changed_lock s args.stateid)).tree) tt
 tree_fits s caller file verdict (deed.Write args) goes = write_fits _ file s.tree.table args
 
 parents-event : (s : Seen) (event : Event) → IsSound s → all_stand_in s.tree.table ≡ true → all_stand_in (after s event (answer_to s event)).tree.table ≡ true
@@ -356,7 +362,7 @@ parents-event s (Ended party) sound all = all
 parents-event s (Asked call verdict) sound all = by_stop (first (checks s call.caller call.file verdict call.deed)) refl
   where
     by_stop : (x : Option Stop) → first (checks s call.caller call.file verdict call.deed) ≡ x → all_stand_in (after s (Asked call verdict) (reply_by s call x)).tree.table ≡ true
-    by_stop (Some (Refuse status)) refused = subst (λ w. all_stand_in (after_words s w).tree.table ≡ true) (sym (words-refused (look s) call verdict status)) all
+    by_stop (Some (Refuse status)) refused = subst (λ w. all_stand_in (after_words s w).tree.table ≡ true) (sym (words-refused s call verdict status)) all
     by_stop (Some (Repeat kept)) repeats = subst (λ w. all_stand_in (after_words s w).tree.table ≡ true) (sym (words-old (look s) call verdict kept (repeat_is_old s call verdict kept repeats))) all
     by_stop None goes = subst (λ w. all_stand_in (after_words s w).tree.table ≡ true) (sym (words-free s call verdict goes))
         (parents-after (deed_words (look s) call.caller call.file call.deed (ok_value s call.caller call.file call.deed)).tree s.tree sound.numbers sound.names

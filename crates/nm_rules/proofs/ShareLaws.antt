@@ -8,16 +8,18 @@ use Rattle.nm_rules.specs.Owners.{same_owner}
 use Rattle.nm_rules.specs.Shares.{open_at, open_of, opened_row, is_opposed, is_open_of, put_open, put_if, renewed_row, narrowed_row, opens_after, shares_conflict}
 use Rattle.nm_rules.specs.Shares.OpenWord.{DropOf}
 use Rattle.nm_rules.specs.Seqids.{OwnerWord, is_fresh}
-use Rattle.nm_rules.specs.Seqids.OwnerWord.{GoneOf}
+use Rattle.nm_rules.specs.Seqids.OwnerWord.{Stays, GoneOf}
 use Rattle.nm_rules.specs.Past.{Past, Now, Words, now, acts, judgement, words, no_words, with_owners, is_done, deed_words, close_words, confirm_words, downgrade_words, opener}
 use Rattle.nm_rules.specs.Seen.{Seen, seen, look, after, after_words}
 use Rattle.nm_rules.specs.Checks.{Stop, first}
 use Rattle.nm_rules.specs.Checks.Stop.{Refuse, Repeat}
 use Rattle.nm_rules.specs.Data.{write_value}
 use Rattle.nm_rules.specs.Files.{create_value}
+use Rattle.nm_rules.specs.LockOps.{lock_value, changed_lock}
+use Rattle.nm_rules.specs.LockRows.LockWord.{EndedOf}
 use Rattle.nm_rules.specs.Opens.{open_checks, open_value, changed_stateid, next_stateid, is_narrower, row_to_open, file_to_open}
 use Rattle.nm_rules.specs.Stateids.{open_named}
-use Rattle.nm_rules.specs.Answer.{answer_to, reply_by, reply_with, refused_value, ok_value, checks, IsLegal}
+use Rattle.nm_rules.specs.Answer.{answer_to, reply_by, refused_value, ok_value, checks, IsLegal}
 use Rattle.nm_rules.specs.Sound.{IsSound, rises, are_apart, all_apart}
 use Rattle.nm_rules.specs.Readings.{Share, row_share, share_in, share_of, ends_share, takes_share, sets_share, asked_share, deed_share, joined, opens, closes, narrows, names_open_of, AreCompatible}
 use Rattle.nm_rules.specs.declared.calls.Call.{Call}
@@ -30,6 +32,7 @@ use Rattle.nm_rules.specs.declared.calls.Verdict.{Verdict}
 use Rattle.nm_rules.specs.declared.calls.Event.{Event}
 use Rattle.nm_rules.specs.declared.calls.Event.TheVariants.{Asked, Ended}
 use Rattle.nm_rules.specs.declared.calls.Reply.{Reply}
+use Rattle.nm_rules.specs.declared.calls.ReplyValue.{ReplyValue}
 use Rattle.nm_rules.specs.declared.calls.ReplyValue.TheVariants as told
 use Rattle.nm_rules.specs.declared.status.OpStatus.{OpStatus}
 use Rattle.nm_rules.specs.declared.rows.OpenRow.{OpenRow}
@@ -37,6 +40,7 @@ use Rattle.nm_rules.proofs.OwnerLemmas.{same_owner-Decides}
 use Rattle.nm_rules.proofs.OpenRows.{IsIn, and_parts, open_at-past, open_at-in, in-open_at, in-filter}
 use Rattle.nm_rules.proofs.Apart.{Suits, apart_in, opened_suits, renewed_suits, narrowed_suits, open_of-in, open_of-none}
 use Rattle.nm_rules.proofs.Legal.{same_row, open_goes, downgrade_goes, free_is_fresh, repeat_is_old, words-refused, words-old, words-free, named_is_live, sound-seen, look-seen}
+use Rattle.nm_rules.proofs.Refusals.{by_refusal, lock_keeps, unlock_keeps, release_keeps}
 
 fails_unless : (b : Bool) → (b ≡ true → ⊥) → b ≡ false
 fails_unless true never = absurd (never refl)
@@ -233,31 +237,45 @@ nothing_ends : (b : Bool) (more set before : Option Share)
 nothing_ends true more set before = refl
 nothing_ends false more set before = refl
 
+-- a value leaves every share
+abbrev LeavesShare : Now → Owner → ℕ → Option Share → Deed → ReplyValue → Type 0
+LeavesShare n owner file before d value = (b : Bool) (caller : Option Party)
+    → cond (cond b (closes n owner file d value) false) None
+    (cond (cond b (opens owner file caller d value) false) (joined before (deed_share d))
+    (cond (cond b (narrows n owner file d value) false) (Some (deed_share d)) before)) ≡ before
+
+refused_share : (n : Now) (owner : Owner) (file : ℕ) (before : Option Share) (b : Bool) (caller : Option Party) (d : Deed)
+    → cond (cond b (closes n owner file d (refused_value d)) false) None
+    (cond (cond b (opens owner file caller d (refused_value d)) false) (joined before (deed_share d))
+    (cond (cond b (narrows n owner file d (refused_value d)) false) (Some (deed_share d)) before)) ≡ before
+refused_share n owner file before b caller (deed.Access _) = nothing_ends b _ _ before
+refused_share n owner file before b caller (deed.Close _) = nothing_ends b _ _ before
+refused_share n owner file before b caller (deed.Commit _) = nothing_ends b _ _ before
+refused_share n owner file before b caller (deed.Create _) = nothing_ends b _ _ before
+refused_share n owner file before b caller (deed.GetAttr _) = nothing_ends b _ _ before
+refused_share n owner file before b caller (deed.Lock _) = nothing_ends b _ _ before
+refused_share n owner file before b caller (deed.LockTest _) = nothing_ends b _ _ before
+refused_share n owner file before b caller (deed.Lookup _) = nothing_ends b _ _ before
+refused_share n owner file before b caller deed.LookupP = nothing_ends b _ _ before
+refused_share n owner file before b None (deed.Open _) = nothing_ends b _ _ before
+refused_share n owner file before b (Some party) (deed.Open _) = nothing_ends b _ _ before
+refused_share n owner file before b caller (deed.OpenConfirm _) = nothing_ends b _ _ before
+refused_share n owner file before b caller (deed.OpenDowngrade _) = nothing_ends b _ _ before
+refused_share n owner file before b caller (deed.Read _) = nothing_ends b _ _ before
+refused_share n owner file before b caller (deed.ReadDir _) = nothing_ends b _ _ before
+refused_share n owner file before b caller (deed.ReleaseLockOwner _) = nothing_ends b _ _ before
+refused_share n owner file before b caller (deed.Remove _) = nothing_ends b _ _ before
+refused_share n owner file before b caller (deed.SetAttr _) = nothing_ends b _ _ before
+refused_share n owner file before b caller (deed.Unlock _) = nothing_ends b _ _ before
+refused_share n owner file before b caller (deed.Write _) = nothing_ends b _ _ before
+
 -- a refusal leaves every share
-refused_leaves : (n : Now) (owner : Owner) (file : ℕ) (call : Call) (verdict : Verdict) (status : OpStatus) (before : Option Share)
-    → share_left n owner file (Asked call verdict) (reply_with status (refused_value call.deed)) before ≡ before
-refused_leaves n owner file call verdict status before = by_deed (acts n call (reply_with status (refused_value call.deed))) call.caller call.deed
-  where
-    by_deed : (b : Bool) (caller : Option Party) (d : Deed)
-        → cond (cond b (closes n owner file d (refused_value d)) false) None
-        (cond (cond b (opens owner file caller d (refused_value d)) false) (joined before (deed_share d))
-        (cond (cond b (narrows n owner file d (refused_value d)) false) (Some (deed_share d)) before)) ≡ before
-    by_deed b caller (deed.Access _) = nothing_ends b _ _ before
-    by_deed b caller (deed.Close _) = nothing_ends b _ _ before
-    by_deed b caller (deed.Commit _) = nothing_ends b _ _ before
-    by_deed b caller (deed.Create _) = nothing_ends b _ _ before
-    by_deed b caller (deed.GetAttr _) = nothing_ends b _ _ before
-    by_deed b caller (deed.Lookup _) = nothing_ends b _ _ before
-    by_deed b caller deed.LookupP = nothing_ends b _ _ before
-    by_deed b None (deed.Open _) = nothing_ends b _ _ before
-    by_deed b (Some party) (deed.Open _) = nothing_ends b _ _ before
-    by_deed b caller (deed.OpenConfirm _) = nothing_ends b _ _ before
-    by_deed b caller (deed.OpenDowngrade _) = nothing_ends b _ _ before
-    by_deed b caller (deed.Read _) = nothing_ends b _ _ before
-    by_deed b caller (deed.ReadDir _) = nothing_ends b _ _ before
-    by_deed b caller (deed.Remove _) = nothing_ends b _ _ before
-    by_deed b caller (deed.SetAttr _) = nothing_ends b _ _ before
-    by_deed b caller (deed.Write _) = nothing_ends b _ _ before
+refused_leaves : (s : Seen) (owner : Owner) (file : ℕ) (call : Call) (verdict : Verdict) (status : OpStatus) (before : Option Share)
+    → share_left (look s) owner file (Asked call verdict) (reply_by s call (Some (Refuse status))) before ≡ before
+refused_leaves s owner file call verdict status before =
+    by_refusal (LeavesShare (look s) owner file before) (λ d b caller. refused_share (look s) owner file before b caller d)
+    (λ args o b caller. nothing_ends b _ _ before) (λ args o b caller. nothing_ends b _ _ before) s call.caller call.file call.deed status
+    (acts (look s) call (reply_by s call (Some (Refuse status)))) call.caller
 
 -- so does a call that came before
 old_leaves : (n : Now) (owner : Owner) (file : ℕ) (call : Call) (verdict : Verdict) (r : Reply) (before : Option Share)
@@ -358,7 +376,7 @@ unfolding after_words opens_after
 kept_share s owner file = refl
 
 ended_share : (s : Seen) (party : Party) (owner : Owner) (file : ℕ)
-    → share_in owner file (after_words s (with_owners (record no_words { opens = DropOf party }) (GoneOf party))).opens ≡ cond (same_party party owner.instance) None (share_in owner file s.opens)
+    → share_in owner file (after_words s (with_owners (record no_words { opens = DropOf party; locks = EndedOf party }) (GoneOf party) Stays)).opens ≡ cond (same_party party owner.instance) None (share_in owner file s.opens)
 unfolding after_words opens_after
 ended_share s party owner file =
     ap (option_map row_share) (open_of-drop_of party owner file s.opens) ∙ map_cond (same_party party owner.instance) (open_of owner file s.opens)
@@ -381,6 +399,9 @@ share_goes s caller its_file verdict (deed.Close args) owner file sound goes =
 share_goes s caller its_file verdict (deed.Commit _) owner file sound goes = refl
 share_goes s caller its_file verdict (deed.Create args) owner file sound goes = refl
 share_goes s caller its_file verdict (deed.GetAttr _) owner file sound goes = refl
+share_goes s caller its_file verdict (deed.Lock args) owner file sound goes =
+    ap (λ word. share_in owner file (opens_after word s.opens)) (lock_keeps (look s) caller its_file args (lock_value s args)).opens
+share_goes s caller its_file verdict (deed.LockTest _) owner file sound goes = refl
 share_goes s caller its_file verdict (deed.Lookup _) owner file sound goes = refl
 share_goes s caller its_file verdict deed.LookupP owner file sound goes = refl
 share_goes s None its_file verdict (deed.Open args) owner file sound goes = cc
@@ -394,15 +415,19 @@ share_goes s caller its_file verdict (deed.OpenDowngrade args) owner file sound 
     narrowed_share s args (open_named s args.stateid) owner file sound (named_is_live s args.stateid) (downgrade_goes s caller its_file args verdict goes)
 share_goes s caller its_file verdict (deed.Read _) owner file sound goes = refl
 share_goes s caller its_file verdict (deed.ReadDir _) owner file sound goes = refl
+share_goes s caller its_file verdict (deed.ReleaseLockOwner args) owner file sound goes =
+    ap (λ word. share_in owner file (opens_after word s.opens)) (release_keeps caller args.owner true).opens
 share_goes s caller its_file verdict (deed.Remove args) owner file sound goes = refl
 share_goes s caller its_file verdict (deed.SetAttr args) owner file sound goes = refl
+share_goes s caller its_file verdict (deed.Unlock args) owner file sound goes =
+    ap (λ word. share_in owner file (opens_after word s.opens)) (unlock_keeps (look s) args (changed_lock s args.stateid)).opens
 share_goes s caller its_file verdict (deed.Write args) owner file sound goes = refl
 
 -- the words of an owner have no part in it
-with_share : (s : Seen) (w : Words) (word : OwnerWord) (owner : Owner) (file : ℕ)
-    → share_in owner file (after_words s (with_owners w word)).opens ≡ share_in owner file (after_words s w).opens
+with_share : (s : Seen) (w : Words) (word start : OwnerWord) (owner : Owner) (file : ℕ)
+    → share_in owner file (after_words s (with_owners w word start)).opens ≡ share_in owner file (after_words s w).opens
 unfolding after_words
-with_share s w word owner file = refl
+with_share s w word start owner file = refl
 
 -- the same, with the test that its status is OK
 done_share : (s : Seen) (call : Call) (verdict : Verdict) (owner : Owner) (file : ℕ) → IsSound s
@@ -412,7 +437,7 @@ done_share : (s : Seen) (call : Call) (verdict : Verdict) (owner : Owner) (file 
 unfolding is_done
 done_share s call verdict owner file sound goes =
     ap (λ w. share_in owner file (after_words s w).opens) (words-free s call verdict goes)
-    ∙ with_share s _ _ owner file
+    ∙ with_share s _ _ _ owner file
     ∙ share_goes s call.caller call.file verdict call.deed owner file sound goes
     ∙ rw (free_is_fresh s call verdict goes) refl
 
@@ -428,10 +453,10 @@ share-after s (Asked call verdict) owner file sound =
         → share_in owner file (after s (Asked call verdict) (reply_by s call x)).opens
         ≡ share_left (look s) owner file (Asked call verdict) (reply_by s call x) (share_in owner file s.opens)
     by_stop (Some (Refuse status)) refused =
-        ap (λ w. share_in owner file (after_words s w).opens) (words-refused (look s) call verdict status)
-        ∙ with_share s no_words _ owner file
+        ap (λ w. share_in owner file (after_words s w).opens) (words-refused s call verdict status)
+        ∙ with_share s no_words _ _ owner file
         ∙ kept_share s owner file
-        ∙ sym (refused_leaves (look s) owner file call verdict status (share_in owner file s.opens))
+        ∙ sym (refused_leaves s owner file call verdict status (share_in owner file s.opens))
     by_stop (Some (Repeat kept)) repeats =
         let old = repeat_is_old s call verdict kept repeats in
         ap (λ w. share_in owner file (after_words s w).opens) (words-old (look s) call verdict kept old)

@@ -3,10 +3,11 @@ use Rattle.std.specs.Prelude.{◌≡◌, ◌≤◌, length, ◌==◌, ◌&&◌, 
 use Rattle.std.specs.List.{list_all}
 use Rattle.nm_rules.specs.Checks.{is_dir}
 use Rattle.nm_rules.specs.Contents.{TreeNow, is_named, file_at, total_size, files_limit, size_limit, total_limit}
-use Rattle.nm_rules.specs.Owners.{same_owner}
+use Rattle.nm_rules.specs.Owners.{same_kind, same_owner}
 use Rattle.nm_rules.specs.Seqids.{owner_at}
 use Rattle.nm_rules.specs.Shares.{shares_conflict}
 use Rattle.nm_rules.specs.Seen.{Seen}
+use Rattle.nm_rules.specs.declared.calls.OwnerKind.TheVariants.{Opens}
 use Rattle.nm_rules.specs.declared.owners.OwnerRow.{OwnerRow}
 use Rattle.nm_rules.specs.declared.rows.FileRow.{FileRow}
 use Rattle.nm_rules.specs.declared.rows.OpenRow.{OpenRow}
@@ -72,7 +73,11 @@ pub record FilesFit (tree : TreeNow) : Type 0 where
 abbrev pub is_known : List OwnerRow → OpenRow → Bool
 is_known owners row = not (is_none (owner_at row.owner owners))
 
--- The owner of each open, live or closed by its owner's kept call, is known.
+abbrev pub is_opener : OpenRow → Bool
+is_opener row = same_kind row.owner.kind Opens
+
+-- A live open is of an owner of opens; and the owner of each open, live or closed by its owner's kept call, is known.
 pub record OwnersAreKnown (s : Seen) : Type 0 where
+  pub kinds : list_all is_opener s.opens ≡ true
   pub opens : list_all (is_known s.owners) s.opens ≡ true
   pub closed : list_all (is_known s.owners) s.closed ≡ true

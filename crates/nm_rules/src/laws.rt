@@ -42,7 +42,7 @@ pub fn tables_show_what_stands()
 {}
 
 /// The counter of the last stateid is how many were made, one by each OPEN that acted while its owner had no share of the file
-/// (RFC 7530, 16.16); and the k-th one is told with the counter k.
+/// (RFC 7530, 16.16) and by each LOCK that acted for a new lock owner (16.10); and the k-th one is told with the counter k.
 pub fn stateids_are_counted()
     ensures last { (fs : ℕ) (grants : Bool) (es : Past) → IsLegal fs grants es → (seen fs grants es).last ≡ stateids_made es }
     ensures told { (fs : ℕ) (grants : Bool) (es : Past) (event : AnyEvent) → IsLegal fs grants es
@@ -98,9 +98,10 @@ pub fn repeats_change_nothing()
 {}
 
 /// While an owner is known it comes back to a seqid only after all others (RFC 7530, 9.1.7): of two operations that moved it on
-/// by the same seqid, 2^32 - 2 such operations stand between them. Here they are numbered from the newest.
+/// by the same seqid, 2^32 - 2 such operations stand between them. Here they are numbered from the newest, and a LOCK that
+/// starts a lock owner is one of them.
 pub fn seqids_are_apart()
-    ensures { (es : Past) (owner : AnyOwner) (newer older n : ℕ)
+    ensures { (fs : ℕ) (grants : Bool) (es : Past) (owner : AnyOwner) (newer older n : ℕ) → IsLegal fs grants es
         → slice_get (seqids_of es owner) newer ≡ Some n → slice_get (seqids_of es owner) older ≡ Some n
         → newer < older → newer + 4294967295 ≤ older }
 {}
@@ -113,8 +114,9 @@ pub fn closed_opens_are_kept_closes()
 {}
 
 /// The table of owners keeps of each owner what the entries tell: the seqid, the call and the reply of its latest fresh
-/// operation whose status moves it on, since its client's latest end (RFC 7530, 9.1.7), and whether an OPEN_CONFIRM of it was
-/// carried out since then (16.18). An owner is known exactly where there is such an operation.
+/// operation whose status moves it on, or of the LOCK that started it (16.10), since its client's latest end and its own latest
+/// release (RFC 7530, 9.1.7 and 16.37), and whether an OPEN_CONFIRM of it was carried out since then (16.18). An owner is known
+/// exactly where there is such an operation.
 pub fn owners_are_kept_as_noted()
     ensures { (fs : ℕ) (grants : Bool) (es : Past) → IsLegal fs grants es
         → (owner : AnyOwner) → owner_at owner (seen fs grants es).owners ≡ owner_now es owner }
