@@ -1,5 +1,5 @@
 //! Work on a list of opens.
-ghost use Rattle.std.specs.Prelude.{◌≡◌, ◌<◌, ◌^◌, ℕ, true, IfOk, IfSome, IsSome, OnErr, map, filter, not, ◌==◌, option_copied, is_none};
+ghost use Rattle.std.specs.Prelude.{◌≡◌, ◌<◌, ◌≤◌, ◌^◌, ℕ, true, IfOk, IfSome, IsSome, OnErr, map, filter, not, ◌==◌, option_copied, is_none};
 ghost use Rattle.nm_shares.specs.Rows.{changed_row, changed_at, renewed_state, ChangedTo, Took};
 ghost use Rattle.nm_rules.specs.Opens.{is_share, is_within, is_narrower};
 ghost use Rattle.nm_rules.specs.Sound.{rises};
@@ -178,6 +178,7 @@ pub fn take(
     requires room { is_none (open_of owner.now file rows.old.items) ≡ true → last < 2 ^ 63 }
     requires rising { rises 0 last rows.old.items ≡ true }
     ensures ok { IfOk result (λ took. Took last rows.old.items owner.now file access deny rows.new.items took.0 took.1) }
+    ensures bound { IfOk result (λ took. last ≤ 2 ^ 63 → took.1 ≤ 2 ^ 63) }
     ensures err { OnErr result (rows.new.items ≡ rows.old.items) }
 {
     match find_of(rows, owner, file) {

@@ -1,6 +1,7 @@
 -- Whose turn it is, and what an operation leaves whose turn it was.
 use Rattle.std.proofs.Common.{◌≡◌, ℕ, Bool, true, false, cond, List, Option, Some, None, refl, ap, sym, subst, ◌∙◌}
-use Rattle.std.specs.Prelude.{◌==◌, not, nat_le, option_map}
+use Rattle.std.specs.Prelude.{◌==◌, ◌||◌, not, nat_le, option_map}
+use Rattle.std.specs.Bool.{Decides}
 use Rattle.std.specs.Option.{option_or}
 use Rattle.nm_rules.specs.Answer.{answer_to, checks, is_denial, ok_value, refused_value, refusal_value, reply_by, reply_with}
 use Rattle.nm_rules.specs.Checks.{Checks, Stop, behind_seqid, first, refusal}
@@ -11,10 +12,11 @@ use Rattle.nm_rules.specs.LockOps.{is_out_of_turn, lock_checks, newcomer_stop, u
 use Rattle.nm_rules.specs.LockRows.{lock_at, locks_after, ranges_after}
 use Rattle.nm_rules.specs.Opens.{claim_unresolved, close_checks, confirm_checks, downgrade_checks, open_checks, rows_limit, rows_taken, GoesOpen}
 use Rattle.nm_rules.specs.Parties.{Party}
-use Rattle.nm_rules.specs.Past.{Now, Words, acts, set_tree, closed_by, deed_words, is_done, judgement, lock_named_by, lock_owner_named, named_by, no_words, noted, noted_row, opener, owner_named, owner_word, seqid_owner, started_by, with_owners, words}
+use Rattle.nm_rules.specs.Past.{Now, Words, acts, confirms, set_tree, closed_by, deed_words, is_done, judgement, lock_named_by, lock_owner_named, named_by, no_words, noted, noted_row, opener, owner_named, owner_word, seqid_owner, started_by, with_owners, words}
 use Rattle.nm_rules.specs.Seen.{Seen, after, after_words, look}
-use Rattle.nm_rules.specs.Seqids.{OwnerWord, advances, closed_after, is_fresh, judged, owner_at, owners_after}
-use Rattle.nm_rules.specs.Seqids.OwnerWord.{Stays}
+use Rattle.nm_rules.specs.Owners.{same_owner}
+use Rattle.nm_rules.specs.Seqids.{OwnerWord, advances, closed_after, is_confirmed, is_fresh, judged, owner_at, owner_left, owners_after, seqid_of, without_recalls}
+use Rattle.nm_rules.specs.Seqids.OwnerWord.{Noted, Stays}
 use Rattle.nm_rules.specs.Shares.{open_at}
 use Rattle.nm_rules.specs.Stateids.{is_own, is_own_lock, judged_stop, lock_named, lock_owner_stop_at, lock_unresolved, owner_stop, owner_stop_at, resolved, unresolved_at}
 use Rattle.nm_rules.specs.declared.args.Claim.{Claim}
@@ -50,6 +52,8 @@ use Rattle.nm_rules.specs.declared.status.OpStatus.{OpStatus}
 use Rattle.nm_rules.specs.declared.status.OpStatus.TheVariants.{BadSeqid, BadStateId, Nfs4Ok, StaleClientId}
 use Rattle.nm_rules.proofs.Legal.{SeqidTells, open_goes, repeat_is_old, seqid_tells, words-refused}
 use Rattle.nm_rules.proofs.OwnerLaws.{old-after, same-after}
+use Rattle.nm_rules.proofs.OwnerLemmas.{same_owner-Decides}
+use Rattle.nm_rules.proofs.OwnerRows.{owner_by-after}
 use Rattle.nm_rules.proofs.Refusals.{by_refusal}
 use Rattle.nm_state.proofs.OpeningLemmas.{applied_stopped, other_refusal, stays_other, stopped_answer}
 use Rattle.nm_state.specs.Locking.{locker_of}
@@ -563,6 +567,63 @@ noted_as s call other verdict owner r closed mid new same turn went noted =
     let its : Went s call verdict r closed Stays mid = subst (λ q. Went s q verdict r closed Stays mid) same went in
     let kept : note_word mid owner call r closed ≡ note_word s owner call r closed = ap (λ (m : Seen). note_word m owner call r closed) its.tables in
     subst (λ x. Applied s (Asked call verdict) r x) (sym (noted ∙ ap (λ w. after_noting w mid) kept)) (applied_noted s call verdict owner r closed Stays mid turn its)
+
+-- a lock owner starts behind it; whether it was confirmed is as it was before
+confirmed_before : (s : Seen) (owner locker : Owner) (call : Call) (r : Reply) → confirms call.deed ≡ false
+    → is_confirmed (owner_left (note_word s owner call r None) locker (owner_at locker s.owners)) ≡ is_confirmed (owner_at locker s.owners)
+unfolding note_word owner_left
+confirmed_before s owner locker call r none = by_status (advances r.status)
+  where
+    row : OwnerRow
+    row = noted_row (owner_at owner s.owners) owner (seqid_of call.deed) call r
+
+    same_as : (b : Bool) → b ≡ false → (c d : Bool) → (c || cond b d false) ≡ c
+    same_as b no true d = refl
+    same_as b no false d = rw no refl
+
+    by_owner : (b : Bool) → same_owner locker owner ≡ b → is_confirmed (cond b (Some row) (owner_at locker s.owners)) ≡ is_confirmed (owner_at locker s.owners)
+    by_owner true same =
+        let its : locker ≡ owner = subst (λ b. Decides b (locker ≡ owner)) same (same_owner-Decides locker owner) in
+        same_as (confirms call.deed) none (is_confirmed (owner_at owner s.owners)) (is_done r.status)
+        ∙ ap (λ o. is_confirmed (owner_at o s.owners)) (sym its)
+    by_owner false same = refl
+
+    by_status : (b : Bool) → is_confirmed (owner_left (cond b (Noted row None) Stays) locker (owner_at locker s.owners)) ≡ is_confirmed (owner_at locker s.owners)
+    by_status true = by_owner (same_owner locker owner) refl
+    by_status false = refl
+
+lock_confirms_none : (call : Call) (args : LockArgs) (new : Newcomer) → Comes call args new → confirms call.deed ≡ false
+unfolding confirms
+lock_confirms_none call args new comes = ap confirms comes.asks
+
+pub started_as : (s : Seen) (call : Call) (args : LockArgs) (new : Newcomer) (verdict : Verdict) (owner : Owner) (r : Reply) (starts : Bool) (mid noted_so last : Seen)
+    → Comes call args new → IsTurn s call verdict (Of owner)
+    → Went s call verdict r None (start_word starts s new.owner new.lock_seqid call r) mid
+    → noted_so ≡ after_noting (note_word mid owner call r None) mid
+    → last ≡ after_noting (start_word starts noted_so new.owner new.lock_seqid call r) noted_so
+    → Applied s (Asked call verdict) r last
+unfolding after_words owners_after closed_after note_word after_noting
+started_as s call args new verdict owner r starts mid noted_so last comes turn went noted_is last_is =
+    let owners : mid.owners ≡ s.owners = ap (λ (m : Seen). m.owners) went.tables in
+    let kept : note_word mid owner call r None ≡ note_word s owner call r None = ap (λ os. word_by os) owners in
+    let its : noted_so ≡ after_noting (note_word s owner call r None) mid = noted_is ∙ ap (λ w. after_noting w mid) kept in
+    let start : start_word starts noted_so new.owner new.lock_seqid call r ≡ start_word starts s new.owner new.lock_seqid call r =
+        ap (λ (x : Seen). start_word starts x new.owner new.lock_seqid call r) its ∙ ap (λ os. start_by starts (owners_after (note_word s owner call r None) os)) owners ∙ same_start starts in
+    subst (λ x. Applied s (Asked call verdict) r x) (sym (last_is ∙ ap (λ w. after_noting w noted_so) start ∙ ap (λ x. after_noting (start_word starts s new.owner new.lock_seqid call r) x) its))
+    (applied_noted s call verdict owner r None (start_word starts s new.owner new.lock_seqid call r) mid turn went)
+  where
+    word_by : List OwnerRow → OwnerWord
+    word_by os = cond (advances r.status) (Noted (noted_row (owner_at owner os) owner (seqid_of call.deed) call r) None) Stays
+
+    start_by : Bool → List OwnerRow → OwnerWord
+    start_by b os = cond b (Noted (noted_row (owner_at new.owner os) new.owner new.lock_seqid call r) None) Stays
+
+    same_start : (b : Bool) → start_by b (owners_after (note_word s owner call r None) s.owners) ≡ start_by b s.owners
+    same_start true =
+        ap (λ c. Noted (record { owner = new.owner; seqid = new.lock_seqid; confirmed = c || cond (confirms call.deed) (is_done r.status) false; call = call; reply = without_recalls r }) None)
+        (ap is_confirmed (owner_by-after (note_word s owner call r None) s.owners new.owner)
+        ∙ confirmed_before s owner new.owner call r (lock_confirms_none call args new comes))
+    same_start false = refl
 
 pub told_as : (s : Seen) (call other : Call) (verdict : Verdict) (owner : Owner) (r : Reply)
     → other ≡ call → IsTurn s call verdict (Of owner) → r ≡ reply_behind s other verdict → r ≡ answer_to s (Asked call verdict)

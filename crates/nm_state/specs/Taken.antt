@@ -23,6 +23,13 @@ taken_with file n waits [] = if waits then n else 0
 taken_with file n waits (x ∷ xs) =
     if waits && (x.file == file) then n + taken_with file n (n == 0) xs else length x.ranges + taken_with file n waits xs
 
+-- what a row adds, and whether those of the file are still to come behind it
+abbrev pub adds : ℕ → ℕ → Bool → FileLocks → ℕ
+adds file n waits x = if waits && (x.file == file) then n else length x.ranges
+
+abbrev pub waits_after : ℕ → ℕ → Bool → FileLocks → Bool
+waits_after file n waits x = if waits && (x.file == file) then n == 0 else waits
+
 -- as 64 bits count it
 abbrev pub counted : ℕ → ℕ
 counted n = min n 18446744073709551615

@@ -1,8 +1,8 @@
 //! The ranges that locks hold, file by file.
-ghost use Rattle.std.specs.Prelude.{◌≡◌, ◌≤◌, ◌∷◌, ◌++◌, [], true, None, IfOk, OnOk, filter, find, length, map, not, option_copied, position};
+ghost use Rattle.std.specs.Prelude.{◌≡◌, ◌≤◌, ◌∷◌, ◌++◌, [], true, None, IfOk, OnOk, filter, find, length, map, not, option_copied, position, if◌then◌else◌};
 ghost use Rattle.nm_rules.specs.LockRows.{has_ranges, is_held_by, is_of, put_ranges, ranges_on, ranges_taken, without};
 ghost use Rattle.nm_rules.specs.Locks.{barrier, cleared, holds, set_to};
-ghost use Rattle.nm_state.specs.Taken.{counted, has_file, table_of, taken_with};
+ghost use Rattle.nm_state.specs.Taken.{adds, counted, has_file, table_of, taken_with, waits_after};
 
 use nm_ranges::{Held, Ranges};
 use nm_rules::{Instance, LockKind, LockRow, Memory};
@@ -65,6 +65,13 @@ impl FileRanges {
         ensures { OnOk result (self.new ≡ record { file = self.old.file; ranges = cleared owner first last self.old.ranges }) }
     {
         Ok(self.ranges.clear(owner, first, last)?)
+    }
+
+    // How many are left once a stateid has given up a range.
+    fn count_with_clear(&self, owner: u64, first: u64, last: u64) -> usize
+        ensures { result ≡ length (cleared owner first last self.now.ranges) }
+    {
+        self.ranges.count_with_clear(owner, first, last)
     }
 
     // Those of an instance go.
@@ -162,6 +169,35 @@ pub fn taken(rows: &[FileRanges]) -> usize
     count
 }
 
+// What a row adds, where so many of a file come in place of its own.
+fn adds(row: &FileRanges, file: u64, ranges: usize, waits: bool) -> usize
+    ensures { result ≡ adds file ranges waits row.now }
+{
+    if waits && row.has_file(file) {
+        ranges
+    } else {
+        row.count()
+    }
+}
+
+// Whether they are still to come behind a row.
+fn waits_after(row: &FileRanges, file: u64, ranges: usize, waits: bool) -> bool
+    ensures { result ≡ waits_after file ranges waits row.now }
+{
+    if waits && row.has_file(file) {
+        ranges == 0
+    } else {
+        waits
+    }
+}
+
+// What they add behind all rows.
+fn adds_last(ranges: usize, waits: bool) -> usize
+    ensures { result ≡ if waits then ranges else 0 }
+{
+    if waits { ranges } else { 0 }
+}
+
 // How many there are with so many of a file in place of its own.
 fn taken_with(rows: &[FileRanges], file: u64, ranges: usize) -> usize
     ensures { result ≡ counted (taken_with file ranges true rows.now) }
@@ -169,18 +205,10 @@ fn taken_with(rows: &[FileRanges], file: u64, ranges: usize) -> usize
     let mut count: usize = 0;
     let mut waits = true;
     for row in rows {
-        if waits && row.has_file(file) {
-            waits = ranges == 0;
-            count = count.saturating_add(ranges);
-        } else {
-            count = count.saturating_add(row.count());
-        }
+        count = count.saturating_add(adds(row, file, ranges, waits));
+        waits = waits_after(row, file, ranges, waits);
     }
-    if waits {
-        count.saturating_add(ranges)
-    } else {
-        count
-    }
+    count.saturating_add(adds_last(ranges, waits))
 }
 
 // How many of a file there are once a lock has taken its range.
@@ -229,6 +257,7 @@ pub fn taken_with_clear(
 }
 
 // The first lock of a file.
+#[tactic(auto, unfolding(nm_rules::specs::Locks::barrier))]
 fn first_of(alloc: Global, file: u64, new: &Held) -> Result<FileRanges, Memory>
     requires { new.now.first ≤ new.now.last }
     ensures { IfOk result (λ row. row ≡ record { file = file; ranges = set_to new.now.owner new.now.kind new.now.first new.now.last [] }) }
@@ -277,7 +306,7 @@ pub fn clear(
     match place_of(rows, file) {
         None => Ok(()),
         Some(at) => {
-            if rows[at].ranges.count_with_clear(owner, first, last) == 0 {
+            if rows[at].count_with_clear(owner, first, last) == 0 {
                 drop_file(rows, file);
                 return Ok(());
             }
