@@ -509,7 +509,7 @@ fits : (m n : ℕ) → nat_lt m n ≡ false → n ≤ m
 fits m n h = grind (arith, nat_tests)
 
 -- a range is taken or given up by a stateid that is there
-named_lock_at : (s : Seen) (stateid : StateRef) (row : LockRow) → lock_named s stateid ≡ Some row → (lock_at row.counter s.locks ≡ Some row) × (counter_of stateid ≡ row.counter)
+pub named_lock_at : (s : Seen) (stateid : StateRef) (row : LockRow) → lock_named s stateid ≡ Some row → (lock_at row.counter s.locks ≡ Some row) × (counter_of stateid ≡ row.counter)
 unfolding lock_named counter_of
 named_lock_at s Zeros row found = cc
 named_lock_at s Ones row found = cc
@@ -539,7 +539,7 @@ stop_file its file o status goes = by_test (its == file) refl goes
     by_test true same goes = eqb-true its file same
     by_test false other goes = cc
 
-live_lock_file : (s : Seen) (file : ℕ) (stateid : StateRef) (access : ℕ) (row : LockRow) → lock_live_stop s file stateid access (Some row) ≡ None → row.file ≡ file
+pub live_lock_file : (s : Seen) (file : ℕ) (stateid : StateRef) (access : ℕ) (row : LockRow) → lock_live_stop s file stateid access (Some row) ≡ None → row.file ≡ file
 unfolding lock_live_stop lock_stop
 live_lock_file s file stateid access row goes = stop_file row.file file _ BadStateId goes
 
@@ -702,7 +702,7 @@ unlock_closes_none : (n : Now) (args : UnlockArgs) (value : ReplyValue) → clos
 unfolding closed_by
 unlock_closes_none n args value = refl
 
-unlock_stale : (s : Seen) (caller : Option Party) (file : ℕ) (args : UnlockArgs) (verdict : Verdict) → IsFree (unlock_checks s caller file args verdict)
+pub unlock_stale : (s : Seen) (caller : Option Party) (file : ℕ) (args : UnlockArgs) (verdict : Verdict) → IsFree (unlock_checks s caller file args verdict)
     → lock_live_stop s file args.stateid 0 (lock_named s args.stateid) ≡ None
 unfolding unlock_checks
 unlock_stale s caller file args verdict free = free.stale
