@@ -829,8 +829,11 @@ rows-event s (Asked call verdict) sound known within = by_stop (first (checks s 
     by_fresh : (status : OpStatus) → first (checks s call.caller call.file verdict call.deed) ≡ Some (Refuse status) → (b : Bool)
         → rows_taken (after_words s (with_owners no_words (cond b (noted (look s) call (reply_by s call (Some (Refuse status))) (seqid_owner (look s) call.caller call.deed)) Stays) Stays)) ≤ rows_limit
     by_fresh status refused true =
-        omega (arith, refused_rows s call.caller call.file call.deed verdict status (reply_by s call (Some (Refuse status)))
-        (refusal_closes s call.caller call.file call.deed status) refl known within refused)
+        omega (
+          arith,
+          refused_rows s call.caller call.file call.deed verdict status (reply_by s call (Some (Refuse status)))
+              (refusal_closes s call.caller call.file call.deed status) refl known within refused,
+        )
     by_fresh status refused false = within
 
     by_stop : (x : Option Stop) → first (checks s call.caller call.file verdict call.deed) ≡ x → rows_taken (after s (Asked call verdict) (reply_by s call x)) ≤ rows_limit
