@@ -1,6 +1,6 @@
 -- What the unmoving server answers: the first class of refusal that applies, read off the entries so far, else the value
 -- of the operation.
-use Rattle.std.specs.Prelude.{◌≡◌, ℕ, Bool, [], ◌∷◌, Option, Some, None, option_map}
+use Rattle.std.specs.Prelude.{◌≡◌, ℕ, Bool, true, false, [], ◌∷◌, Option, Some, None, option_map, if◌then◌else◌}
 use Rattle.nm_rules.specs.Parties.{Party}
 use Rattle.nm_rules.specs.Past.{Past}
 use Rattle.nm_rules.specs.Seen.{Seen, seen}
@@ -45,7 +45,7 @@ checks s caller file verdict (deed.SetAttr args) = setattr_checks s caller file 
 checks s caller file verdict (deed.Unlock args) = unlock_checks s caller file args verdict
 checks s caller file verdict (deed.Write args) = write_checks s caller file args verdict
 
--- A refusal carries no value, but that SETATTR says that it set nothing, and a DENIED what is in the way.
+-- A refusal carries no value, but that SETATTR says that it set nothing, and RELEASE_LOCKOWNER that it released nobody.
 abbrev pub refused_value : Deed → ReplyValue
 refused_value (deed.Access _) = told.Access None
 refused_value (deed.Close _) = told.Close None
@@ -61,20 +61,24 @@ refused_value (deed.OpenConfirm _) = told.OpenConfirm None
 refused_value (deed.OpenDowngrade _) = told.OpenDowngrade None
 refused_value (deed.Read _) = told.Read None
 refused_value (deed.ReadDir _) = told.ReadDir None
-refused_value (deed.ReleaseLockOwner _) = told.ReleaseLockOwner
+refused_value (deed.ReleaseLockOwner _) = told.ReleaseLockOwner false
 refused_value (deed.Remove _) = told.Remove None
 refused_value (deed.SetAttr _) = told.SetAttr []
 refused_value (deed.Unlock _) = told.Unlock None
 refused_value (deed.Write _) = told.Write None
 
+-- A DENIED carries what is in the way.
 abbrev pub denied_value : Seen → Option Party → ℕ → Deed → ReplyValue
 denied_value s caller file (deed.Lock args) = told.Lock (option_map IsDenied (lock_denied s file args))
 denied_value s caller file (deed.LockTest args) = told.LockTest (test_denied s caller file args)
 denied_value s caller file d = refused_value d
 
-unfoldable pub refusal_value : Seen → Option Party → ℕ → Deed → OpStatus → ReplyValue
-refusal_value s caller file d DeniedStatus = denied_value s caller file d
-refusal_value s caller file d _ = refused_value d
+unfoldable pub is_denial : OpStatus → Bool
+is_denial DeniedStatus = true
+is_denial _ = false
+
+abbrev pub refusal_value : Seen → Option Party → ℕ → Deed → OpStatus → ReplyValue
+refusal_value s caller file d status = if is_denial status then denied_value s caller file d else refused_value d
 
 abbrev pub ok_value : Seen → Option Party → ℕ → Deed → ReplyValue
 ok_value s caller file (deed.Access args) = told.Access (access_value args)
@@ -91,7 +95,7 @@ ok_value s caller file (deed.OpenConfirm args) = told.OpenConfirm (changed_state
 ok_value s caller file (deed.OpenDowngrade args) = told.OpenDowngrade (changed_stateid s args.stateid)
 ok_value s caller file (deed.Read args) = told.Read (read_value (current s file) args)
 ok_value s caller file (deed.ReadDir args) = told.ReadDir (readdir_value s file args)
-ok_value s caller file (deed.ReleaseLockOwner _) = told.ReleaseLockOwner
+ok_value s caller file (deed.ReleaseLockOwner _) = told.ReleaseLockOwner true
 ok_value s caller file (deed.Remove _) = told.Remove (Some (changed_dir s file))
 ok_value s caller file (deed.SetAttr args) = told.SetAttr (setattr_value args)
 ok_value s caller file (deed.Unlock args) = told.Unlock (changed_lock s args.stateid)

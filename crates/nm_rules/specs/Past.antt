@@ -266,9 +266,13 @@ unlock_words n args (told.Unlock (Some id)) =
 unlock_words n args _ = no_words
 
 -- A RELEASE_LOCKOWNER that acted ends the stateids of its owner, which hold nothing.
-abbrev pub release_words : Option Party → List ℕ → Words
-release_words (Some party) text = record no_words { locks = Released (lock_owner party text) }
-release_words None text = no_words
+abbrev pub released_words : Option Party → List ℕ → Words
+released_words (Some party) text = record no_words { locks = Released (lock_owner party text) }
+released_words None text = no_words
+
+abbrev pub release_words : Option Party → List ℕ → ReplyValue → Words
+release_words caller text (told.ReleaseLockOwner true) = released_words caller text
+release_words caller text _ = no_words
 
 -- ---- names and data
 
@@ -331,7 +335,7 @@ deed_words n caller file (deed.OpenConfirm _) value = confirm_words n value
 deed_words n caller file (deed.OpenDowngrade args) value = downgrade_words n args value
 deed_words n caller file (deed.Read _) value = no_words
 deed_words n caller file (deed.ReadDir _) value = no_words
-deed_words n caller file (deed.ReleaseLockOwner args) value = release_words caller args.owner
+deed_words n caller file (deed.ReleaseLockOwner args) value = release_words caller args.owner value
 deed_words n caller file (deed.Remove args) value = remove_words file args value
 deed_words n caller file (deed.SetAttr args) value = setattr_words n file args value
 deed_words n caller file (deed.Unlock args) value = unlock_words n args value
@@ -377,13 +381,21 @@ abbrev pub ended : Option Party → List ℕ → OwnerWord
 ended (Some party) text = Gone (lock_owner party text)
 ended None text = Stays
 
-unfoldable pub started_by : Now → Call → Reply → Deed → OwnerWord
-started_by n call r (deed.Lock args) = started n call r call.caller args.locker
-started_by n call r (deed.ReleaseLockOwner args) = ended call.caller args.owner
-started_by n call r _ = Stays
+abbrev pub lock_starts : Now → Call → Reply → Locker → ReplyValue → OwnerWord
+lock_starts n call r locker (told.Lock (Some (Locked id))) = started n call r call.caller locker
+lock_starts n call r locker _ = Stays
+
+abbrev pub release_ends : Option Party → List ℕ → ReplyValue → OwnerWord
+release_ends caller text (told.ReleaseLockOwner true) = ended caller text
+release_ends caller text _ = Stays
+
+unfoldable pub started_by : Now → Call → Reply → Deed → ReplyValue → OwnerWord
+started_by n call r (deed.Lock args) value = lock_starts n call r args.locker value
+started_by n call r (deed.ReleaseLockOwner args) value = release_ends call.caller args.owner value
+started_by n call r _ value = Stays
 
 abbrev pub start_word : Now → Call → Reply → OwnerWord
-start_word n call r = if acts n call r then started_by n call r call.deed else Stays
+start_word n call r = if acts n call r then started_by n call r call.deed r.value else Stays
 
 abbrev pub with_owners : Words → OwnerWord → OwnerWord → Words
 with_owners w word start = record w { owners = word; starts = start }

@@ -188,7 +188,8 @@ pub enum ReplyValue {
     OpenDowngrade(Option<StateId>),
     Read(Option<ReadOk>),
     ReadDir(Option<ReadDirOk>),
-    ReleaseLockOwner,
+    /// Whether the owner was released.
+    ReleaseLockOwner(bool),
     /// The change numbers of the directory.
     Remove(Option<ChangeInfo>),
     /// The words of a bitmap, with every status: the attributes that were set.

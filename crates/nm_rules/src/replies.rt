@@ -155,7 +155,7 @@ impl ReplyValue {
             ReplyValue::Read(Some(value)) => ReplyValue::Read(Some(value.copy()?)),
             ReplyValue::ReadDir(None) => ReplyValue::ReadDir(None),
             ReplyValue::ReadDir(Some(value)) => ReplyValue::ReadDir(Some(value.copy()?)),
-            ReplyValue::ReleaseLockOwner => ReplyValue::ReleaseLockOwner,
+            ReplyValue::ReleaseLockOwner(value) => ReplyValue::ReleaseLockOwner(*value),
             ReplyValue::Remove(value) => ReplyValue::Remove(*value),
             ReplyValue::SetAttr(words) => ReplyValue::SetAttr(words.copy()?),
             ReplyValue::Unlock(value) => ReplyValue::Unlock(*value),
