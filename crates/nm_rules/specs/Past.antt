@@ -255,6 +255,11 @@ locked_words n caller file args counter (Known stateid lock_seqid) = record no_w
   locks = claim_if (option_map renewed_lock (lock_at counter n.locks)) (kind_of args.kind) args.offset (last_of args.offset args.length);
 }
 
+-- the lock stands
+abbrev pub is_locked : ReplyValue → Bool
+is_locked (told.Lock (Some (Locked _))) = true
+is_locked _ = false
+
 abbrev pub lock_words : Now → Option Party → ℕ → LockArgs → ReplyValue → Words
 lock_words n caller file args (told.Lock (Some (Locked id))) = locked_words n caller file args id.counter args.locker
 lock_words n caller file args _ = no_words
@@ -270,9 +275,13 @@ abbrev pub released_words : Option Party → List ℕ → Words
 released_words (Some party) text = record no_words { locks = Released (lock_owner party text) }
 released_words None text = no_words
 
+-- the owner was released
+abbrev pub is_released : ReplyValue → Bool
+is_released (told.ReleaseLockOwner released) = released
+is_released _ = false
+
 abbrev pub release_words : Option Party → List ℕ → ReplyValue → Words
-release_words caller text (told.ReleaseLockOwner true) = released_words caller text
-release_words caller text _ = no_words
+release_words caller text value = if is_released value then released_words caller text else no_words
 
 -- ---- names and data
 
@@ -382,12 +391,10 @@ ended (Some party) text = Gone (lock_owner party text)
 ended None text = Stays
 
 abbrev pub lock_starts : Now → Call → Reply → Locker → ReplyValue → OwnerWord
-lock_starts n call r locker (told.Lock (Some (Locked id))) = started n call r call.caller locker
-lock_starts n call r locker _ = Stays
+lock_starts n call r locker value = if is_locked value then started n call r call.caller locker else Stays
 
 abbrev pub release_ends : Option Party → List ℕ → ReplyValue → OwnerWord
-release_ends caller text (told.ReleaseLockOwner true) = ended caller text
-release_ends caller text _ = Stays
+release_ends caller text value = if is_released value then ended caller text else Stays
 
 unfoldable pub started_by : Now → Call → Reply → Deed → ReplyValue → OwnerWord
 started_by n call r (deed.Lock args) value = lock_starts n call r args.locker value
