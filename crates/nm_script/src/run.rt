@@ -5,9 +5,7 @@ ghost use Rattle.nm_script.specs.Reading.{Gives};
 
 use crate::fault::LineFault;
 use crate::names::{client_number, file_system_number, server_number};
-use crate::words::{
-    access, bytes, count, deny, is_file_name, is_name, is_word, lock_kind, number,
-};
+use crate::words::{access, bytes, count, deny, is_file_name, is_name, is_word, lock_kind, number};
 use crate::{Head, Line, Why};
 use nm_rules::{
     Action, Bytes, CloseAction, LockAction, NameAction, OpenAction, ReadAction, ReleaseAction,

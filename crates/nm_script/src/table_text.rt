@@ -119,10 +119,7 @@ fn push_ranges<'a>(
 
 // Adds them where it is one of byte-range locks.
 #[tactic(auto, unfolding(crate::specs::TableText::ranges_in))]
-fn push_held<'a>(
-    held: &mut Vec<(&'a HeldRow, LockRange)>,
-    row: &'a HeldRow,
-) -> Result<(), Memory>
+fn push_held<'a>(held: &mut Vec<(&'a HeldRow, LockRange)>, row: &'a HeldRow) -> Result<(), Memory>
     ensures { OnOk result (map (λ h. (h.0.now, h.1)) held.new.items ≡ map (λ h. (h.0.now, h.1)) held.old.items ++ with_row row.now (ranges_in row.now.row)) }
 {
     match &row.row {
