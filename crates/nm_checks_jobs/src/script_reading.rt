@@ -111,7 +111,7 @@ const BEHIND_SERVER: [Refused; 14] = [
 ];
 
 /// Bad texts behind HEAD.
-const BEHIND_HEAD: [Refused; 118] = [
+const BEHIND_HEAD: [Refused; 117] = [
     // Bytes.
     (b"show X\r\n", 6, Why::Bytes),
     (b"# \x1f\n", 6, Why::Bytes),
@@ -130,7 +130,6 @@ const BEHIND_HEAD: [Refused; 118] = [
     (b"alias A S1\n", 6, Why::Word),
     (b"do\n", 6, Why::Word),
     (b"do C1\n", 6, Why::Word),
-    (b"do C1 lock X f w 0 1 o\n", 6, Why::Word),
     (b"do C1 open X f r none\n", 6, Why::Word),
     (b"do C1 open X f r none o o\n", 6, Why::Word),
     (b"do C1 open X  r none o\n", 6, Why::Word),
@@ -238,6 +237,61 @@ const BEHIND_HEAD: [Refused; 118] = [
     (b"show X\nclient\n", 7, Why::Head),
 ];
 
+/// Lines of byte-range locks. A length of 0 is read: the server refuses it.
+const LOCKS: &[u8] = b"do C1 lock X f r 0 0 o\n\
+    do C1 lock X f w 18446744073709551615 18446744073709551615 o\n\
+    do C1 unlock X f 0 18446744073709551615 a\n\
+    do C1 test X f r 0 100 b\n\
+    do C1 release X a\n";
+
+/// Bad lines of byte-range locks behind HEAD.
+const LOCKS_BEHIND_HEAD: [Refused; 33] = [
+    // Words: the kind is one of them, and comes before any name.
+    (b"do C1 lock X f 0 1 o\n", 6, Why::Word),
+    (b"do C1 lock X f w 0 1\n", 6, Why::Word),
+    (b"do C1 lock X f w 0 1 o o\n", 6, Why::Word),
+    (b"do C1 lock X f w 0  o\n", 6, Why::Word),
+    (b"do C1 lock X f rw 0 1 o\n", 6, Why::Word),
+    (b"do C1 lock X f none 0 1 o\n", 6, Why::Word),
+    (b"do C1 lock X f R 0 1 o\n", 6, Why::Word),
+    (b"do C9 lock Y ? x x x ?\n", 6, Why::Word),
+    (b"do C9 test Y ? rw x x ?\n", 6, Why::Word),
+    (b"do C9 tests Y ? r x x ?\n", 6, Why::Word),
+    (b"do C1 test X f r 0 o\n", 6, Why::Word),
+    (b"do C1 unlock X f w 0 1 o\n", 6, Why::Word),
+    (b"do C1 unlock X f 0 o\n", 6, Why::Word),
+    (b"do C9 unlocks Y ? x x ?\n", 6, Why::Word),
+    (b"do C1 release X\n", 6, Why::Word),
+    (b"do C1 release X f o\n", 6, Why::Word),
+    (b"lock X f w 0 1 o\n", 6, Why::Word),
+    // Names, before the numbers.
+    (b"do C9 lock X f w x x o\n", 6, Why::Name),
+    (b"do C1 lock Y f w x x o\n", 6, Why::Name),
+    (b"do C1 lock X .. r x x o\n", 6, Why::Name),
+    (b"do C1 test X f r x x o.o\n", 6, Why::Name),
+    (b"do C9 unlock X f x x o\n", 6, Why::Name),
+    (b"do C1 unlock S1 f x x o\n", 6, Why::Name),
+    (b"do C1 unlock X f/g x x o\n", 6, Why::Name),
+    (b"do C9 release X o\n", 6, Why::Name),
+    (b"do C1 release Y o\n", 6, Why::Name),
+    (b"do C1 release X o.o\n", 6, Why::Name),
+    // Numbers.
+    (b"do C1 lock X f w 01 1 o\n", 6, Why::Number),
+    (
+        b"do C1 lock X f w 0 18446744073709551616 o\n",
+        6,
+        Why::Number,
+    ),
+    (b"do C1 test X f r -1 1 o\n", 6, Why::Number),
+    (b"do C1 test X f r 1 x o\n", 6, Why::Number),
+    (
+        b"do C1 unlock X f 18446744073709551616 1 o\n",
+        6,
+        Why::Number,
+    ),
+    (b"do C1 unlock X f 0 +1 o\n", 6, Why::Number),
+];
+
 /// The first of the texts that isn't refused so behind a front and parts, or the front where the text to be taken isn't.
 fn other(
     alloc: Global,
@@ -265,8 +319,9 @@ fn the_first_bad_line_is_told_and_its_first_fault(rt: HostRuntime) -> Result<(),
         other(rt.alloc(), LEASED, &NONE, b"server -_", &BEHIND_LEASE)?,
         other(rt.alloc(), SERVED, &NONE, b"", &BEHIND_SERVER)?,
         other(rt.alloc(), HEAD, &NONE, b"", &BEHIND_HEAD)?,
+        other(rt.alloc(), HEAD, &NONE, LOCKS, &LOCKS_BEHIND_HEAD)?,
     );
-    assert_eq!(rt; others, (None, None, None, None));
+    assert_eq!(rt; others, (None, None, None, None, None));
     Ok(())
 }
 

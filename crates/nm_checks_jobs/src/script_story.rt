@@ -1,5 +1,5 @@
 //! What each kind of line says.
-use nm_rules::{Action, Bytes, Memory, NameAction, OpenAction};
+use nm_rules::{Action, Bytes, LockAction, LockKind, Memory, NameAction, OpenAction};
 use nm_script::{ClientRow, FsRow, Head, Line, ScriptFault, ServerRow, read_script};
 use std::alloc::Global;
 use std::test::*;
@@ -20,6 +20,11 @@ do c_2 open home a.txt rw none o-2\n\
 do C1 create home ... r w o\n\
 do C1 close home ... o\n\
 do c_2 downgrade X a.txt w rw o-2\n\
+do c_2 lock home a.txt r 0 0 o-2\n\
+do C1 lock X f w 18446744073709551615 18446744073709551615 o\n\
+do c_2 test X f w 10 5 o\n\
+do C1 unlock X f 20 10 o\n\
+do C1 release home r\n\
 do C1 read X f 18446744073709551615 65536 o\n\
 do c_2 read X f 0 0 o\n\
 do C1 write X f 7 00ff6869 o\n\
@@ -37,7 +42,7 @@ shift home abcdefghijklmnop\n\
 show home";
 
 /// What a line says: its first word behind the client, the numbers of its client, its file system and its server; and of an
-/// action the file, two numbers, bytes and the owner. What it doesn't have is 0 and empty.
+/// action the file, two numbers, bytes or the word of a lock's kind, and the owner. What it doesn't have is 0 and empty.
 type Said<'a> = (
     &'a [u8],
     (u32, u32, u32),
@@ -47,11 +52,16 @@ type Said<'a> = (
     &'a [u8],
 );
 
-const SAID: [Said<'static>; 19] = [
+const SAID: [Said<'static>; 24] = [
     (b"open", (1, 0, 0), b"a.txt", (3, 0), b"", b"o-2"),
     (b"create", (0, 0, 0), b"...", (1, 2), b"", b"o"),
     (b"close", (0, 0, 0), b"...", (0, 0), b"", b"o"),
     (b"downgrade", (1, 1, 0), b"a.txt", (2, 3), b"", b"o-2"),
+    (b"lock", (1, 0, 0), b"a.txt", (0, 0), b"r", b"o-2"),
+    (b"lock", (0, 1, 0), b"f", (u64::MAX, u64::MAX), b"w", b"o"),
+    (b"test", (1, 1, 0), b"f", (10, 5), b"w", b"o"),
+    (b"unlock", (0, 1, 0), b"f", (20, 10), b"", b"o"),
+    (b"release", (0, 0, 0), b"", (0, 0), b"", b"r"),
     (b"read", (0, 1, 0), b"f", (u64::MAX, 65536), b"", b"o"),
     (b"read", (1, 1, 0), b"f", (0, 0), b"", b"o"),
     (b"write", (0, 1, 0), b"f", (7, 0), b"\x00\xffhi", b"o"),
@@ -81,6 +91,21 @@ fn opening<'a>(verb: &'a [u8], client: u32, a: &'a OpenAction) -> Said<'a> {
     )
 }
 
+fn locking<'a>(verb: &'a [u8], client: u32, a: &'a LockAction) -> Said<'a> {
+    let kind: &[u8] = match a.kind {
+        LockKind::Read => b"r",
+        LockKind::Write => b"w",
+    };
+    (
+        verb,
+        (client, a.fs.number(), 0),
+        a.file.items(),
+        (a.offset, a.length),
+        kind,
+        a.owner.items(),
+    )
+}
+
 fn naming<'a>(verb: &'a [u8], client: u32, a: &'a NameAction) -> Said<'a> {
     (
         verb,
@@ -99,6 +124,13 @@ fn acting(client: u32, action: &Action) -> Said<'_> {
         Action::Create(a) => opening(b"create", client, a),
         Action::Downgrade(a) => opening(b"downgrade", client, a),
         Action::Close(a) => (b"close", at, a.file.items(), (0, 0), b"", a.owner.items()),
+        Action::Lock(a) => locking(b"lock", client, a),
+        Action::Test(a) => locking(b"test", client, a),
+        Action::Unlock(a) => {
+            let numbers = (a.offset, a.length);
+            (b"unlock", at, a.file.items(), numbers, b"", a.owner.items())
+        }
+        Action::Release(a) => (b"release", at, b"", (0, 0), b"", a.owner.items()),
         Action::Read(a) => {
             let numbers = (a.offset, a.count as u64);
             (b"read", at, a.file.items(), numbers, b"", a.owner.items())

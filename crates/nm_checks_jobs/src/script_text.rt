@@ -1,7 +1,7 @@
 //! What is printed of reports and faults.
 use nm_rules::{
-    Bytes, Cause, HeldKind, HeldRow, HeldTable, Instance, Items, Memory, MoveNum, OpStatus,
-    Principal, ReadOk, Verb,
+    Bytes, Cause, Denied, HeldKind, HeldRow, HeldTable, Instance, Items, LockKind, LockRange,
+    Memory, MoveNum, OpStatus, Principal, RangeList, ReadOk, Verb,
 };
 use nm_script::{
     HeldReport, IdleRow, MoveNames, MoveRow, MoveTold, Names, OutcomeRow, PhaseNow, PhaseReport,
@@ -48,6 +48,39 @@ fn told(alloc: Global, number: usize) -> Result<(Verb, Told), Memory> {
         15 => (Verb::List, listed(alloc, &[b"a.txt"])?),
         16 => (Verb::List, listed(alloc, &[])?),
         _ => (Verb::Downgrade, Told::Answered(OpStatus::Inval)),
+    })
+}
+
+fn denied(alloc: Global, owner: &[u8], range: LockRange) -> Result<Told, Memory> {
+    Ok(Told::Denied(Denied {
+        range,
+        owner: bytes(alloc, owner)?,
+        instance: None,
+    }))
+}
+
+fn reads(first: u64, last: u64) -> LockRange {
+    let kind = LockKind::Read;
+    LockRange { kind, first, last }
+}
+
+fn writes(first: u64, last: u64) -> LockRange {
+    let kind = LockKind::Write;
+    LockRange { kind, first, last }
+}
+
+/// What clients are told of byte-range locks, by numbers.
+fn told_of_locks(alloc: Global, number: usize) -> Result<(Verb, Told), Memory> {
+    let max = u64::MAX;
+    Ok(match number {
+        0 => (Verb::Lock, Told::Answered(OpStatus::Nfs4Ok)),
+        1 => (Verb::Unlock, Told::NoState),
+        2 => (Verb::Release, Told::Answered(OpStatus::LocksHeld)),
+        3 => (Verb::Lock, denied(alloc, b"C2/b", reads(0, 99))?),
+        4 => (Verb::Test, denied(alloc, b"C1/a", writes(10, 14))?),
+        5 => (Verb::Test, denied(alloc, b"C1/o", reads(1, max))?),
+        6 => (Verb::Lock, denied(alloc, b"C1/o", writes(max, max))?),
+        _ => (Verb::Lock, denied(alloc, b"C1/o", writes(0, max - 1))?),
     })
 }
 
@@ -127,9 +160,8 @@ fn table(alloc: Global) -> Result<HeldTable, Fail> {
     Ok(table)
 }
 
-fn outcome(alloc: Global, number: usize) -> Result<ReportRow, Memory> {
+fn outcome(alloc: Global, verb: Verb, told: Told) -> Result<ReportRow, Memory> {
     let client = bytes(alloc, b"C1")?;
-    let (verb, told) = told(alloc, number)?;
     Ok(ReportRow::Outcome(OutcomeRow { client, verb, told }))
 }
 
@@ -161,7 +193,12 @@ fn file_system_row(alloc: Global, number: usize) -> Result<ReportRow, Fail> {
 fn report(alloc: Global) -> Result<Report, Fail> {
     let mut report = Items::new(alloc);
     for number in 0..18 {
-        report.push(outcome(alloc, number)?)?;
+        let (verb, told) = told(alloc, number)?;
+        report.push(outcome(alloc, verb, told)?)?;
+    }
+    for number in 0..8 {
+        let (verb, told) = told_of_locks(alloc, number)?;
+        report.push(outcome(alloc, verb, told)?)?;
     }
     report.push(ReportRow::Idle(IdleRow {
         client: bytes(alloc, b"C9")?,
@@ -177,7 +214,12 @@ const TEXT: &[u8] = b"C1 create OK\nC1 open SHARE_DENIED\nC1 close DELAY\nC1 cre
     C1 close NOSTATE\nC1 remove BUSY\nC1 mkdir DELAY\nC1 size STOPPED\n\
     C1 write OK 2\nC1 write OK 4294967295\n\
     C1 read OK 6869 eof\nC1 read OK 007fff more\nC1 read OK - eof\nC1 read OK - more\n\
-    C1 list OK d e\nC1 list OK a.txt\nC1 list OK\nC1 downgrade INVAL\nC9 idle\n\
+    C1 list OK d e\nC1 list OK a.txt\nC1 list OK\nC1 downgrade INVAL\n\
+    C1 lock OK\nC1 unlock NOSTATE\nC1 release LOCKS_HELD\n\
+    C1 lock DENIED C2/b r 0 100\nC1 test DENIED C1/a w 10 5\n\
+    C1 test DENIED C1/o r 1 18446744073709551615\n\
+    C1 lock DENIED C1/o w 18446744073709551615 18446744073709551615\n\
+    C1 lock DENIED C1/o w 0 18446744073709551615\nC9 idle\n\
     X at S1\nX closing S1 S2 move 1\nX frozen S1 S2 move 2\n\
     X passing S1 S2 move 18446744073709551615\n\
     X notserved\nX busy 1\nX same\nX last\nX waiting 2\nX idle\nX back S1\nX late S2\n\
@@ -200,6 +242,84 @@ fn what_is_held_is_printed_by_itself(rt: HostRuntime) -> Result<(), Fail> {
     let phase = PhaseNow::At(bytes(rt.alloc(), b"S1")?);
     let text = held_text(rt.alloc(), b"X", &phase, &table)?;
     assert_eq!(rt; text.as_slice(), b"X at S1\n".as_slice());
+    Ok(())
+}
+
+/// A range, with its first and its last byte.
+type Range = (LockKind, u64, u64);
+
+/// Stateids of byte-range locks: the counter, the file's number and name, the owner and the ranges.
+type Locked = (u64, u64, &'static [u8], &'static [u8], &'static [Range]);
+
+const LOCKED: [Locked; 4] = [
+    (
+        3,
+        17,
+        b"a",
+        b"C2/b",
+        &[(LockKind::Read, 0, 19), (LockKind::Read, 30, 99)],
+    ),
+    (
+        4,
+        16,
+        b"f",
+        b"C1/a",
+        &[(LockKind::Read, 10, 14), (LockKind::Write, 20, u64::MAX)],
+    ),
+    (5, 16, b"f", b"C1/o", &[]),
+    (
+        6,
+        16,
+        b"f",
+        b"C2/p",
+        &[(LockKind::Write, 0, 0), (LockKind::Read, 10, 99)],
+    ),
+];
+
+fn ranges(alloc: Global, rows: &[Range]) -> Result<RangeList, Memory> {
+    let mut list = RangeList::new(alloc);
+    for (kind, first, last) in rows {
+        list.push(LockRange {
+            kind: *kind,
+            first: *first,
+            last: *last,
+        })?;
+    }
+    Ok(list)
+}
+
+fn locked(alloc: Global, row: &Locked) -> Result<HeldRow, Fail> {
+    let (counter, file, name, owner, held_ranges) = *row;
+    let mut held = opened(alloc, name, owner, 1, 0)?;
+    held.counter = counter;
+    held.file = file;
+    held.row = HeldKind::Lock {
+        ranges: ranges(alloc, held_ranges)?,
+    };
+    Ok(held)
+}
+
+/// A table of these, behind an open.
+fn table_with_locks(alloc: Global, rows: &[Locked]) -> Result<HeldTable, Fail> {
+    let mut table = Items::new(alloc);
+    table.push(opened(alloc, b"f", b"C1/a", 3, 0)?)?;
+    for row in rows {
+        table.push(locked(alloc, row)?)?;
+    }
+    Ok(table)
+}
+
+const LOCKED_TEXT: &[u8] = b"X at S1\n  open f C1/a rw none\n\
+    \x20 lock f C2/p w 0 1\n  lock f C1/a r 10 5\n  lock f C2/p r 10 90\n\
+    \x20 lock f C1/a w 20 18446744073709551615\n\
+    \x20 lock a C2/b r 0 20\n  lock a C2/b r 30 70\n";
+
+#[test]
+fn locks_are_shown_by_file_and_first_byte_and_counter(rt: HostRuntime) -> Result<(), Fail> {
+    let table = table_with_locks(rt.alloc(), &LOCKED)?;
+    let phase = PhaseNow::At(bytes(rt.alloc(), b"S1")?);
+    let text = held_text(rt.alloc(), b"X", &phase, &table)?;
+    assert_eq!(rt; text.as_slice(), LOCKED_TEXT);
     Ok(())
 }
 

@@ -20,6 +20,8 @@ mod slot;
 #[cfg(test)]
 mod state_files;
 #[cfg(test)]
+mod state_locks;
+#[cfg(test)]
 mod state_opens;
 #[cfg(test)]
 mod state_steps;

@@ -1,9 +1,10 @@
 //! Short words for events on one file system, for tests. Each client is one letter.
 use nm_rules::{
     AccessArgs, Bytes, Call, Claim, CloseArgs, CommitArgs, CreateArgs, CreateType, Deed, Event,
-    Fattr, FsNum, GetAttrArgs, Instance, Items, LookupArgs, OpStatus, OpenArgs, OpenConfirmArgs,
-    OpenDowngradeArgs, OpenType, Principal, ReadArgs, ReadDirArgs, RemoveArgs, Reply, ReplyValue,
-    SetAttrArgs, Stable, StateId, StateRef, Verdict, WriteArgs,
+    Fattr, FsNum, GetAttrArgs, Instance, Items, LockArgs, LockTestArgs, LockType, Locker,
+    LookupArgs, OpStatus, OpenArgs, OpenConfirmArgs, OpenDowngradeArgs, OpenType, Principal,
+    ReadArgs, ReadDirArgs, ReleaseLockOwnerArgs, RemoveArgs, Reply, ReplyValue, SetAttrArgs,
+    Stable, StateId, StateRef, UnlockArgs, Verdict, WriteArgs,
 };
 use nm_state::FsState;
 use std::alloc::Global;
@@ -20,6 +21,10 @@ pub(crate) enum How {
     Exclusive(u64),
 }
 
+/// A range that is to be locked: how, its offset and its length.
+#[derive(Clone, Copy)]
+pub(crate) struct Part(pub(crate) LockType, pub(crate) u64, pub(crate) u64);
+
 /// What is asked.
 #[derive(Clone, Copy)]
 pub(crate) enum What<'a> {
@@ -31,6 +36,16 @@ pub(crate) enum What<'a> {
     Downgrade(u32, u32, u64, u32, u32),
     /// The owner's seqid, and the stateid with that seqid and that counter.
     Close(u32, u32, u64),
+    /// By the new lock owner `l`: the open owner's seqid, the open's stateid with that seqid and that counter, the lock owner's seqid.
+    NewLock(u32, u32, u64, u32, Part),
+    /// The lock owner's seqid, and its stateid with that seqid and that counter.
+    Lock(u32, u32, u64, Part),
+    /// The same, and an offset and a length.
+    Unlock(u32, u32, u64, u64, u64),
+    /// By the lock owner `l`.
+    Test(Part),
+    /// The lock owner `l`.
+    Release,
     /// A directory of mode 0700.
     MakeDir(&'a [u8]),
     Remove(&'a [u8]),
@@ -152,6 +167,71 @@ fn deed(alloc: Global, what: What<'_>) -> Result<Deed, Fail> {
         What::Access(access) => Ok(Deed::Access(AccessArgs { access })),
         What::Attributes => Ok(Deed::GetAttr(GetAttrArgs {
             words: Items::from_slice(alloc, &[16])?,
+        })),
+        _ => lock_deed(alloc, what),
+    }
+}
+
+fn new_lock(
+    alloc: Global,
+    open_seqid: u32,
+    its: u32,
+    counter: u64,
+    lock_seqid: u32,
+    part: Part,
+) -> Result<Deed, Fail> {
+    let Part(kind, offset, length) = part;
+    Ok(Deed::Lock(LockArgs {
+        kind,
+        reclaim: false,
+        offset,
+        length,
+        locker: Locker::New {
+            open_seqid,
+            stateid: StateRef::Named(stateid(its, counter)),
+            lock_seqid,
+            owner: Bytes::from_slice(alloc, b"l")?,
+        },
+    }))
+}
+
+fn known_lock(lock_seqid: u32, its: u32, counter: u64, part: Part) -> Deed {
+    let Part(kind, offset, length) = part;
+    Deed::Lock(LockArgs {
+        kind,
+        reclaim: false,
+        offset,
+        length,
+        locker: Locker::Known {
+            stateid: StateRef::Named(stateid(its, counter)),
+            lock_seqid,
+        },
+    })
+}
+
+fn lock_deed(alloc: Global, what: What<'_>) -> Result<Deed, Fail> {
+    match what {
+        What::NewLock(open_seqid, its, counter, lock_seqid, part) => {
+            new_lock(alloc, open_seqid, its, counter, lock_seqid, part)
+        }
+        What::Lock(lock_seqid, its, counter, part) => {
+            Ok(known_lock(lock_seqid, its, counter, part))
+        }
+        What::Unlock(seqid, its, counter, offset, length) => Ok(Deed::Unlock(UnlockArgs {
+            kind: LockType::Read,
+            seqid,
+            stateid: StateRef::Named(stateid(its, counter)),
+            offset,
+            length,
+        })),
+        What::Test(Part(kind, offset, length)) => Ok(Deed::LockTest(LockTestArgs {
+            kind,
+            offset,
+            length,
+            owner: Bytes::from_slice(alloc, b"l")?,
+        })),
+        What::Release => Ok(Deed::ReleaseLockOwner(ReleaseLockOwnerArgs {
+            owner: Bytes::from_slice(alloc, b"l")?,
         })),
         _ => data_deed(alloc, what),
     }

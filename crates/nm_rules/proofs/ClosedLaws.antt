@@ -252,7 +252,7 @@ start_notes s call r caller file =
     by_start NotesClosed s call r tt (λ party text seqid args it. rw it refl) (λ party text. tt) caller file call.deed refl
 
 -- a live open's owner is the one for whom its stateid is used
-live_named : (s : Seen) (stateid : StateRef) (row : OpenRow) → open_named s stateid ≡ Some row → named_by (look s) stateid ≡ Some row
+pub live_named : (s : Seen) (stateid : StateRef) (row : OpenRow) → open_named s stateid ≡ Some row → named_by (look s) stateid ≡ Some row
 unfolding open_named named_by look
 live_named s Zeros row found = cc
 live_named s Ones row found = cc

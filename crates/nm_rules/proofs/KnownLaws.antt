@@ -5,21 +5,26 @@ use Rattle.std.specs.List.{list_all}
 use Rattle.std.proofs.lemmas.Bool.{false≢true, true≢false, both_ways}
 use Rattle.nm_rules.specs.Parties.{Party, same_party}
 use Rattle.nm_rules.specs.Owners.{same_kind, same_owner}
-use Rattle.nm_rules.specs.LockOps.{lock_value, changed_lock}
+use Rattle.nm_rules.specs.LockAsks.{lock_owner}
+use Rattle.nm_rules.specs.LockOps.{lock_value, locked_stateid, changed_lock, next_lock_stateid}
+use Rattle.nm_rules.specs.LockRows.{LockWord, lock_at, renewed_lock, claim_if, clear_if, locks_after}
+use Rattle.nm_rules.specs.LockRows.LockWord.{AsIs, Claimed, Cleared, ClosedWith, Released, EndedOf}
 use Rattle.nm_rules.specs.Seqids.{OwnerWord, advances, is_fresh, seqid_of, owner_at, put_owner, owners_after, closed_after, listed}
 use Rattle.nm_rules.specs.Seqids.OwnerWord.{Stays, Noted, Gone, GoneOf}
 use Rattle.nm_rules.specs.Shares.{OpenWord, open_at, opened_row, renewed_row, narrowed_row, put_if, put_open, opens_after}
 use Rattle.nm_rules.specs.Shares.OpenWord.{Keep, Put, Drop, DropOf}
-use Rattle.nm_rules.specs.Past.{Past, Now, Words, no_words, deed_words, noted, noted_row, closed_by, owner_word, judgement, seqid_owner, with_owners, words, started_by, is_done, opener, open_words, close_words, confirm_words, downgrade_words}
+use Rattle.nm_rules.specs.Past.{Past, Now, Words, no_words, deed_words, noted, noted_row, closed_by, owner_word, judgement, seqid_owner, with_owners, words, started_by, lock_starts, ended, released_words, lock_words, unlock_words, is_done, opener, open_words, close_words, confirm_words, downgrade_words}
 use Rattle.nm_rules.specs.Seen.{Seen, seen, look, after, after_words}
 use Rattle.nm_rules.specs.Checks.{Stop, first}
 use Rattle.nm_rules.specs.Checks.Stop.{Refuse, Repeat}
 use Rattle.nm_rules.specs.Data.{write_value}
 use Rattle.nm_rules.specs.Files.{create_value}
 use Rattle.nm_rules.specs.Opens.{changed_stateid, next_stateid, open_value}
-use Rattle.nm_rules.specs.Stateids.{open_named}
+use Rattle.nm_rules.specs.Stateids.{open_named, lock_named}
 use Rattle.nm_rules.specs.Answer.{answer_to, reply_by, refused_value, refusal_value, ok_value, checks, IsLegal}
-use Rattle.nm_rules.specs.Sound.{is_known, is_opener, OwnersAreKnown}
+use Rattle.nm_rules.specs.Sound.{is_known, is_opener, is_locker, OwnersAreKnown}
+use Rattle.nm_rules.specs.declared.args.Locker.{Locker}
+use Rattle.nm_rules.specs.declared.args.Locker.TheVariants as locker
 use Rattle.nm_rules.specs.declared.args.OpenArgs.{OpenArgs}
 use Rattle.nm_rules.specs.declared.args.OpenDowngradeArgs.{OpenDowngradeArgs}
 use Rattle.nm_rules.specs.declared.calls.Call.{Call}
@@ -33,12 +38,16 @@ use Rattle.nm_rules.specs.declared.calls.OwnerKind.TheVariants.{Opens}
 use Rattle.nm_rules.specs.declared.calls.Reply.{Reply}
 use Rattle.nm_rules.specs.declared.calls.ReplyValue.TheVariants as told
 use Rattle.nm_rules.specs.declared.calls.Verdict.{Verdict}
+use Rattle.nm_rules.specs.declared.calls.StateRef.{StateRef}
 use Rattle.nm_rules.specs.declared.owners.OwnerRow.{OwnerRow}
+use Rattle.nm_rules.specs.declared.results.LockKind.{LockKind}
+use Rattle.nm_rules.specs.declared.results.LockOutcome.TheVariants.{Locked}
+use Rattle.nm_rules.specs.declared.rows.LockRow.{LockRow}
 use Rattle.nm_rules.specs.declared.rows.OpenRow.{OpenRow}
 use Rattle.nm_rules.specs.declared.status.OpStatus.{OpStatus}
 use Rattle.nm_rules.specs.declared.status.OpStatus.TheVariants.{Nfs4Ok}
 use Rattle.nm_rules.proofs.Legal.{words-free, words-old, words-refused, repeat_is_old}
-use Rattle.nm_rules.proofs.LockRowLaws.{list_all-filter}
+use Rattle.nm_rules.proofs.LockRowLaws.{list_all-filter, list_all-put}
 use Rattle.nm_rules.proofs.OpenRows.{and_parts}
 use Rattle.nm_rules.proofs.OwnerLemmas.{same_owner-Decides}
 use Rattle.nm_rules.proofs.OwnerRows.{owner_at-put, owner_at-gone, owner_at-without}
@@ -216,17 +225,109 @@ start_closed (Noted row (Some closed)) owners rows fits known = absurd fits
 start_closed (Gone owner) owners rows fits known = swept_known owner owners rows known
 start_closed (GoneOf party) owners rows fits known = absurd fits
 
+-- ---- lock stateids
+
+-- an owner as that of an open, whatever open it is
+abbrev as_open : Owner → OpenRow
+as_open owner = record { counter = 0; seqid = 0; owner = owner; file = 0; access = 0; deny = 0 }
+
+-- what a lock word puts has a known owner, and with an owner that is released its stateids go
+abbrev LocksFit : LockWord → OwnerWord → List OwnerRow → Type 0
+LocksFit AsIs start owners = Remains start
+LocksFit (Claimed row kind from to) start owners = Remains start × (is_locker (owners_after start owners) row ≡ true)
+LocksFit (Cleared row from to) start owners = Remains start × (is_locker (owners_after start owners) row ≡ true)
+LocksFit (ClosedWith counter) start owners = Remains start
+LocksFit (Released owner) start owners = start ≡ Gone owner
+LocksFit (EndedOf party) start owners = ⊥
+
+lockers_after : (word : OwnerWord) (owners : List OwnerRow) (rows : List LockRow) → Remains word → list_all (is_locker owners) rows ≡ true
+    → list_all (is_locker (owners_after word owners)) rows ≡ true
+lockers_after word owners [] remains known = refl
+lockers_after word owners (x ∷ xs) remains known =
+    let parts = and_parts (is_locker owners x) (list_all (is_locker owners) xs) known in
+    rw (known-after word owners (as_open x.owner) remains parts.0, lockers_after word owners xs remains parts.1) refl
+
+lockers_left : (owner : Owner) (owners : List OwnerRow) (rows : List LockRow) → list_all (is_locker owners) rows ≡ true
+    → list_all (is_locker (filter (λ o. not (same_owner owner o.owner)) owners)) (filter (λ x. not (same_owner owner x.owner)) rows) ≡ true
+lockers_left owner owners [] known = refl
+lockers_left owner owners (x ∷ xs) known =
+    by_test (same_owner owner x.owner) (same_owner x.owner owner) refl refl (lockers_left owner owners xs (and_parts (is_locker owners x) (list_all (is_locker owners) xs) known).1)
+  where
+    left : List OwnerRow
+    left = filter (λ o. not (same_owner owner o.owner)) owners
+
+    rest : List LockRow
+    rest = filter (λ y. not (same_owner owner y.owner)) xs
+
+    by_test : (b c : Bool) → same_owner owner x.owner ≡ b → same_owner x.owner owner ≡ c → list_all (is_locker left) rest ≡ true
+        → list_all (is_locker left) (cond (not b) (x ∷ rest) rest) ≡ true
+    by_test true c its same later = later
+    by_test false true other same later =
+        absurd (both_ways (same_owner owner x.owner) other ((same_owner-Decides owner x.owner).1 (sym ((same_owner-Decides x.owner owner).0 same))))
+    by_test false false other not_same later = rw (stays_known, later) refl
+      where
+        stays_known : is_locker left x ≡ true
+        stays_known = rw (owner_at-without owner owners x.owner, not_same) (and_parts (is_locker owners x) (list_all (is_locker owners) xs) known).0
+
+lockers_gone : (party : Party) (owners : List OwnerRow) (rows : List LockRow) → list_all (is_locker owners) rows ≡ true
+    → list_all (is_locker (filter (λ o. not (same_party party o.owner.instance)) owners)) (filter (λ x. not (same_party party x.owner.instance)) rows) ≡ true
+lockers_gone party owners [] known = refl
+lockers_gone party owners (x ∷ xs) known =
+    by_test (same_party party x.owner.instance) refl (lockers_gone party owners xs (and_parts (is_locker owners x) (list_all (is_locker owners) xs) known).1)
+  where
+    left : List OwnerRow
+    left = filter (λ o. not (same_party party o.owner.instance)) owners
+
+    rest : List LockRow
+    rest = filter (λ y. not (same_party party y.owner.instance)) xs
+
+    by_test : (b : Bool) → same_party party x.owner.instance ≡ b → list_all (is_locker left) rest ≡ true
+        → list_all (is_locker left) (cond (not b) (x ∷ rest) rest) ≡ true
+    by_test true theirs later = later
+    by_test false other later = rw (stays_known, later) refl
+      where
+        stays_known : is_locker left x ≡ true
+        stays_known = rw (owner_at-gone party owners x.owner, other) (and_parts (is_locker owners x) (list_all (is_locker owners) xs) known).0
+
+lockers_known : (word : LockWord) (start : OwnerWord) (owners : List OwnerRow) (rows : List LockRow) → LocksFit word start owners
+    → list_all (is_locker owners) rows ≡ true → list_all (is_locker (owners_after start owners)) (locks_after word rows) ≡ true
+unfolding locks_after owners_after
+lockers_known AsIs start owners rows fits known = lockers_after start owners rows fits known
+lockers_known (Claimed row kind from to) start owners rows fits known =
+    list_all-put (is_locker (owners_after start owners)) row rows (lockers_after start owners rows fits.0 known) fits.1
+lockers_known (Cleared row from to) start owners rows fits known =
+    list_all-put (is_locker (owners_after start owners)) row rows (lockers_after start owners rows fits.0 known) fits.1
+lockers_known (ClosedWith counter) start owners rows fits known =
+    list_all-filter (is_locker (owners_after start owners)) (λ x. not (x.opened == counter)) rows (lockers_after start owners rows fits known)
+lockers_known (Released owner) start owners rows fits known = rw fits (lockers_left owner owners rows known)
+lockers_known (EndedOf party) start owners rows fits known = absurd fits
+
+pub lock_all_at : (p : LockRow → Bool) (k : ℕ) (rows : List LockRow) (x : LockRow) → list_all p rows ≡ true → lock_at k rows ≡ Some x → p x ≡ true
+unfolding lock_at
+lock_all_at p k [] x all found = cc
+lock_all_at p k (y ∷ ys) x all found =
+    by_test (y.counter == k) found (and_parts (p y) (list_all p ys) all).0 (λ there. lock_all_at p k ys x (and_parts (p y) (list_all p ys) all).1 there)
+  where
+    by_test : (b : Bool) → cond b (Some y) (find (λ row. row.counter == k) ys) ≡ Some x → p y ≡ true
+        → (find (λ row. row.counter == k) ys ≡ Some x → p x ≡ true) → p x ≡ true
+    by_test true here passes later = ap p (sym (some_same here)) ∙ passes
+      where
+        some_same : {a b : LockRow} → Some a ≡ Some b → a ≡ b
+        some_same e = cc
+    by_test false there passes later = later there
+
 -- what words leave whose owner moves on, or doesn't, and by which a lock owner starts or is released
 known-words : (s : Seen) (w : Words) → OwnersAreKnown s → Remains w.owners → OpenFits w.opens (owners_after w.owners s.owners) → ClosedFits w.owners s.owners
-    → StartFits w.starts → list_all is_opener (opens_after w.opens s.opens) ≡ true
+    → StartFits w.starts → list_all is_opener (opens_after w.opens s.opens) ≡ true → LocksFit w.locks w.starts (owners_after w.owners s.owners)
     → OwnersAreKnown (after_words s w)
 unfolding after_words
-known-words s w known remains fits closed start kinds = record {
+known-words s w known remains fits closed start kinds locks = record {
   kinds = kinds;
   opens = start_opens w.starts (owners_after w.owners s.owners) (opens_after w.opens s.opens) start kinds
       (opens_known w.opens (owners_after w.owners s.owners) s.opens (all_known w.owners s.owners s.opens remains known.opens) fits);
   closed = start_closed w.starts (owners_after w.owners s.owners) (closed_after w.owners s.closed) start
       (closed_known w.owners s.owners s.closed remains known.closed closed);
+  locks = lockers_known w.locks w.starts (owners_after w.owners s.owners) s.locks locks (lockers_after w.owners s.owners s.locks remains known.locks);
 }
 
 -- ---- an instance's end
@@ -531,21 +632,108 @@ goes_closes s caller file (deed.SetAttr args) known x found = cc
 goes_closes s caller file (deed.Unlock args) known x found = cc
 goes_closes s caller file (deed.Write args) known x found = cc
 
+-- the words of a call that nothing stops put lock stateids of known owners
+renewed_locker : (s : Seen) → OwnersAreKnown s → (owners : List OwnerRow) → ((x : LockRow) → is_locker s.owners x ≡ true → is_locker owners x ≡ true) → (k : ℕ) (x : LockRow)
+    → lock_at k s.locks ≡ Some x → is_locker owners (renewed_lock x) ≡ true
+renewed_locker s known owners stays k x found = stays (renewed_lock x) (lock_all_at (is_locker s.owners) k s.locks x known.locks found)
+
+claimed_fits : (s : Seen) → OwnersAreKnown s → (owners : List OwnerRow) → ((x : LockRow) → is_locker s.owners x ≡ true → is_locker owners x ≡ true) → (k : ℕ) (kind : LockKind) (from to : ℕ)
+    → LocksFit (claim_if (option_map renewed_lock (lock_at k s.locks)) kind from to) Stays owners
+unfolding owners_after
+claimed_fits s known owners stays k kind from to = by_row (lock_at k s.locks) refl
+  where
+    by_row : (o : Option LockRow) → lock_at k s.locks ≡ o → LocksFit (claim_if (option_map renewed_lock o) kind from to) Stays owners
+    by_row None none = tt
+    by_row (Some x) found = (tt, renewed_locker s known owners stays k x found)
+
+cleared_fits : (s : Seen) → OwnersAreKnown s → (owners : List OwnerRow) → ((x : LockRow) → is_locker s.owners x ≡ true → is_locker owners x ≡ true) → (k from to : ℕ)
+    → LocksFit (clear_if (option_map renewed_lock (lock_at k s.locks)) from to) Stays owners
+unfolding owners_after
+cleared_fits s known owners stays k from to = by_row (lock_at k s.locks) refl
+  where
+    by_row : (o : Option LockRow) → lock_at k s.locks ≡ o → LocksFit (clear_if (option_map renewed_lock o) from to) Stays owners
+    by_row None none = tt
+    by_row (Some x) found = (tt, renewed_locker s known owners stays k x found)
+
+goes_locks : (s : Seen) (call : Call) (r : Reply) (file : ℕ) (d : Deed) → OwnersAreKnown s → (owners : List OwnerRow)
+    → ((x : LockRow) → is_locker s.owners x ≡ true → is_locker owners x ≡ true)
+    → LocksFit (deed_words (look s) call.caller file d (ok_value s call.caller file d)).locks (started_by (look s) call r d (ok_value s call.caller file d)) owners
+unfolding started_by create_value write_value changed_stateid changed_lock locked_stateid owners_after open_value look
+goes_locks s call r file (deed.Access _) known owners stays = tt
+goes_locks s call r file (deed.Close args) known owners stays = by_told (option_map (next_stateid s.fs) (open_named s args.stateid))
+  where
+    by_told : (o : Option StateId) → LocksFit (close_words (told.Close o)).locks Stays owners
+    by_told None = tt
+    by_told (Some id) = tt
+goes_locks s call r file (deed.Commit _) known owners stays = tt
+goes_locks s call r file (deed.Create args) known owners stays = tt
+goes_locks s call r file (deed.GetAttr _) known owners stays = tt
+goes_locks s call r file (deed.Lock args) known owners stays = by_locker call.caller args.locker
+  where
+    by_row : (caller : Option Party) (stateid : StateRef) (lock_seqid : ℕ) (o : Option LockRow)
+        → LocksFit (lock_words (look s) caller file (record args { locker = locker.Known stateid lock_seqid }) (told.Lock (option_map Locked (option_map (next_lock_stateid s.fs) o)))).locks
+        (lock_starts (look s) (record call { caller = caller }) r (locker.Known stateid lock_seqid) (told.Lock (option_map Locked (option_map (next_lock_stateid s.fs) o)))) owners
+    by_row None stateid lock_seqid None = tt
+    by_row (Some party) stateid lock_seqid None = tt
+    by_row None stateid lock_seqid (Some row) = claimed_fits s known owners stays row.counter _ args.offset _
+    by_row (Some party) stateid lock_seqid (Some row) = claimed_fits s known owners stays row.counter _ args.offset _
+
+    by_locker : (caller : Option Party) (locker : Locker)
+        → LocksFit (lock_words (look s) caller file (record args { locker = locker }) (told.Lock (lock_value s (record args { locker = locker })))).locks
+        (lock_starts (look s) (record call { caller = caller }) r locker (told.Lock (lock_value s (record args { locker = locker })))) owners
+    by_locker None (locker.New open_seqid stateid lock_seqid text) = tt
+    by_locker (Some party) (locker.New open_seqid stateid lock_seqid text) = (tt, known-now _ owners (as_open (lock_owner party text)) refl)
+    by_locker caller (locker.Known stateid lock_seqid) = by_row caller stateid lock_seqid (lock_named s stateid)
+goes_locks s call r file (deed.LockTest _) known owners stays = tt
+goes_locks s call r file (deed.Lookup _) known owners stays = tt
+goes_locks s call r file deed.LookupP known owners stays = tt
+goes_locks s call r file (deed.Open args) known owners stays = by_caller call.caller
+  where
+    by_caller : (caller : Option Party) → LocksFit (open_words (look s) caller file args (told.Open (open_value s caller file args))).locks Stays owners
+    by_caller None = tt
+    by_caller (Some party) = tt
+goes_locks s call r file (deed.OpenConfirm args) known owners stays = by_told (option_map (next_stateid s.fs) (open_named s args.stateid))
+  where
+    by_told : (o : Option StateId) → LocksFit (confirm_words (look s) (told.OpenConfirm o)).locks Stays owners
+    by_told None = tt
+    by_told (Some id) = tt
+goes_locks s call r file (deed.OpenDowngrade args) known owners stays = by_told (option_map (next_stateid s.fs) (open_named s args.stateid))
+  where
+    by_told : (o : Option StateId) → LocksFit (downgrade_words (look s) args (told.OpenDowngrade o)).locks Stays owners
+    by_told None = tt
+    by_told (Some id) = tt
+goes_locks s call r file (deed.Read _) known owners stays = tt
+goes_locks s call r file (deed.ReadDir _) known owners stays = tt
+goes_locks s call r file (deed.ReleaseLockOwner args) known owners stays = by_caller call.caller
+  where
+    by_caller : (caller : Option Party) → LocksFit (released_words caller args.owner).locks (ended caller args.owner) owners
+    by_caller None = tt
+    by_caller (Some party) = refl
+goes_locks s call r file (deed.Remove args) known owners stays = tt
+goes_locks s call r file (deed.SetAttr args) known owners stays = tt
+goes_locks s call r file (deed.Unlock args) known owners stays = by_row (lock_named s args.stateid)
+  where
+    by_row : (o : Option LockRow) → LocksFit (unlock_words (look s) args (told.Unlock (option_map (next_lock_stateid s.fs) o))).locks Stays owners
+    by_row None = tt
+    by_row (Some row) = cleared_fits s known owners stays row.counter args.offset _
+goes_locks s call r file (deed.Write args) known owners stays = tt
+
 known-event : (s : Seen) (event : Event) → OwnersAreKnown s → OwnersAreKnown (after s event (answer_to s event))
-unfolding answer_to words after_words opens_after owners_after closed_after
+unfolding answer_to words after_words opens_after owners_after closed_after locks_after
 known-event s (Ended party) known = record {
   kinds = list_all-filter is_opener (λ x. not (same_party party x.owner.instance)) s.opens known.kinds;
   opens = gone_known party s.owners s.opens known.opens;
   closed = gone_known party s.owners s.closed known.closed;
+  locks = lockers_gone party s.owners s.locks known.locks;
 }
 known-event s (Asked call verdict) known = by_stop (first (checks s call.caller call.file verdict call.deed)) refl
   where
     by_stop : (x : Option Stop) → first (checks s call.caller call.file verdict call.deed) ≡ x → OwnersAreKnown (after s (Asked call verdict) (reply_by s call x))
     by_stop (Some (Refuse status)) refused = subst (λ w. OwnersAreKnown (after_words s w)) (sym (words-refused s call verdict status))
         (known-words s (with_owners no_words (owner_word (look s) call (reply_by s call (Some (Refuse status)))) Stays) known
-        (word_remains (look s) call (reply_by s call (Some (Refuse status)))) tt (refused_fits s call status) tt known.kinds)
+        (word_remains (look s) call (reply_by s call (Some (Refuse status)))) tt (refused_fits s call status) tt known.kinds tt)
     by_stop (Some (Repeat kept)) repeats = subst (λ w. OwnersAreKnown (after_words s w)) (sym (words-old (look s) call verdict kept (repeat_is_old s call verdict kept repeats)))
-        (known-words s no_words known tt tt tt tt known.kinds)
+        (known-words s no_words known tt tt tt tt known.kinds tt)
     by_stop None goes = subst (λ w. OwnersAreKnown (after_words s w)) (sym (words-free s call verdict goes))
         (known-words s (with_owners (deed_words (look s) call.caller call.file call.deed (ok_value s call.caller call.file call.deed))
         (noted (look s) call (reply_by s call None) (seqid_owner (look s) call.caller call.deed))
@@ -555,10 +743,13 @@ known-event s (Asked call verdict) known = by_stop (first (checks s call.caller 
         (noted_closes (look s) call (reply_by s call None) s.owners (seqid_owner (look s) call.caller call.deed) (goes_closes s call.caller call.file call.deed known))
         (by_start StartFits s call (reply_by s call None) tt (λ party text seqid args it. tt) (λ party text. refl) call.caller call.file call.deed refl)
         (kinds_known (deed_words (look s) call.caller call.file call.deed (ok_value s call.caller call.file call.deed)).opens s.opens known.kinds
-        (goes_kind s call.caller call.file call.deed known.kinds)))
+        (goes_kind s call.caller call.file call.deed known.kinds))
+        (goes_locks s call (reply_by s call None) call.file call.deed known _
+        (λ x its. known-after (noted (look s) call (reply_by s call None) (seqid_owner (look s) call.caller call.deed)) s.owners (as_open x.owner)
+        (noted_remains (look s) call (reply_by s call None) (seqid_owner (look s) call.caller call.deed)) its)))
 
 pub known-seen : (fs : ℕ) (grants : Bool) (es : Past) → IsLegal fs grants es → OwnersAreKnown (seen fs grants es)
 unfolding seen
-known-seen fs grants [] legal = record { kinds = refl; opens = refl; closed = refl }
+known-seen fs grants [] legal = record { kinds = refl; opens = refl; closed = refl; locks = refl }
 known-seen fs grants (x ∷ earlier) legal =
     rw legal.0 (known-event (seen fs grants earlier) x.event (known-seen fs grants earlier legal.1))

@@ -200,7 +200,7 @@ row_tells s caller file d seqid stateid (Some row) found own =
     rw (named_resolved s stateid row found) (stop_tells false (owner_at row.owner s.owners) seqid caller file d)
 
 -- a lock owner's stateid is named by its counter
-named_lock : (s : Seen) (stateid : StateRef) (row : LockRow) → lock_named s stateid ≡ Some row → lock_named_by (look s) stateid ≡ Some row
+pub named_lock : (s : Seen) (stateid : StateRef) (row : LockRow) → lock_named s stateid ≡ Some row → lock_named_by (look s) stateid ≡ Some row
 unfolding lock_named lock_named_by look
 named_lock s Zeros row found = cc
 named_lock s Ones row found = cc

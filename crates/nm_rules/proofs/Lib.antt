@@ -6,6 +6,7 @@ pub mod FileRows
 pub mod HolderLaws
 pub mod KnownLaws
 pub mod Legal
+pub mod LegalLocks
 pub mod LimitLaws
 pub mod LockRowLaws
 pub mod LockTables

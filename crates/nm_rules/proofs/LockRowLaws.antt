@@ -20,6 +20,19 @@ locks_rise-le above last [] rising = grind (arith, nat_tests)
 locks_rise-le above last (row ∷ rows) rising = grind (arith, nat_tests, locks_rise-le row.counter last rows)
 
 -- Above the greatest counter there is no row.
+pub lock_at-counter : (k : ℕ) (rows : List LockRow) (row : LockRow) → lock_at k rows ≡ Some row → row.counter ≡ k
+unfolding lock_at
+lock_at-counter k [] row found = cc
+lock_at-counter k (x ∷ xs) row found = by_test (x.counter == k) refl found (lock_at-counter k xs row)
+  where
+    by_test : (b : Bool) → (x.counter == k) ≡ b → cond b (Some x) (find (λ r. r.counter == k) xs) ≡ Some row
+        → (find (λ r. r.counter == k) xs ≡ Some row → row.counter ≡ k) → row.counter ≡ k
+    by_test true same here later = ap (λ (r : LockRow). r.counter) (sym (some_same here)) ∙ eqb-true x.counter k same
+      where
+        some_same : {a b : LockRow} → Some a ≡ Some b → a ≡ b
+        some_same e = cc
+    by_test false other there later = later there
+
 pub lock_at-past : (above last : ℕ) (rows : List LockRow) (k : ℕ) → locks_rise above last rows ≡ true → last < k → lock_at k rows ≡ None
 unfolding lock_at
 lock_at-past above last [] k rising past = refl

@@ -8,7 +8,7 @@ use Rattle.nm_rules.specs.Lists.{is_empty}
 use Rattle.nm_rules.specs.Parties.{Party, same_party}
 use Rattle.nm_rules.specs.Owners.{same_owner}
 use Rattle.nm_rules.specs.Locks.{kind_at, holds_byte, kinds_conflict, holds, cleared, set_to, barrier, is_inside, stands_behind, stand_behind, are_joined, none_conflict, conflicts, conflicts_with, IsJoined}
-use Rattle.nm_rules.specs.LockRows.{LockWord, LocksStand, MayFollow, lock_at, lock_of, is_lock_of, ranges_on, put_file, put_ranges, held_by, lock_in, lock_left, locks_after, ranges_after, last_after, go_together, without, has_ranges, is_held_by, is_other_file, files_differ, is_on, is_lock_on, is_known, may_put, is_idle, put_lock, locks_rise, all_differ}
+use Rattle.nm_rules.specs.LockRows.{LockWord, LocksStand, MayFollow, lock_at, lock_of, is_lock_of, ranges_on, put_file, put_ranges, held_by, lock_in, lock_left, locks_after, ranges_after, last_after, go_together, without, has_ranges, is_held_by, is_other_file, files_differ, is_on, is_lock_on, is_known, may_put, is_idle, are_idle_with, are_idle_of, put_lock, locks_rise, all_differ}
 use Rattle.nm_rules.specs.LockRows.LockWord.{AsIs, Claimed, Cleared, ClosedWith, Released, EndedOf}
 use Rattle.nm_rules.specs.declared.calls.Owner.{Owner}
 use Rattle.nm_rules.specs.declared.results.LockKind.{LockKind}
@@ -436,7 +436,7 @@ ended_held party last locks ranges stand owner file byte =
 pub held-after : (word : LockWord) (last : ℕ) (locks : List LockRow) (ranges : List FileLocks)
     → LocksStand last locks ranges → MayFollow word last locks ranges → (owner : Owner) (file byte : ℕ)
     → lock_in owner file byte (locks_after word locks) (ranges_after word locks ranges) ≡ lock_left word owner file byte (lock_in owner file byte locks ranges)
-unfolding locks_after ranges_after lock_left
+unfolding locks_after ranges_after lock_left are_idle_with are_idle_of
 held-after AsIs last locks ranges stand follows owner file byte = refl
 held-after (Claimed row kind from to) last locks ranges stand follows owner file byte =
     put_held last locks ranges row (set_to row.counter kind from to (ranges_on row.file ranges)) (Some kind) from to stand
@@ -676,7 +676,7 @@ claimed_stand row kind from to last locks ranges stand follows b at =
 pub stand-after : (word : LockWord) (last : ℕ) (locks : List LockRow) (ranges : List FileLocks)
     → LocksStand last locks ranges → MayFollow word last locks ranges
     → LocksStand (last_after word last) (locks_after word locks) (ranges_after word locks ranges)
-unfolding locks_after ranges_after
+unfolding locks_after ranges_after are_idle_with are_idle_of
 stand-after AsIs last locks ranges stand follows = stand
 stand-after (Claimed row kind from to) last locks ranges stand follows = claimed_stand row kind from to last locks ranges stand follows (row.counter == last + 1) refl
 stand-after (Cleared row from to) last locks ranges stand follows =

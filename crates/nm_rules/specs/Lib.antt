@@ -11,6 +11,7 @@ pub mod Holders
 pub mod Lists
 pub mod LockAsks
 pub mod LockOps
+pub mod LockReadings
 pub mod LockRows
 pub mod Locks
 pub mod Names

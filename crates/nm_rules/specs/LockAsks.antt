@@ -1,5 +1,5 @@
 -- What the arguments of operations on byte-range locks ask for (RFC 7530, 16.10, 16.11 and 16.12).
-use Rattle.std.specs.Prelude.{◌==◌, ◌&&◌, ◌||◌, not, nat_lt, ℕ, ◌+◌, ◌-◌, Bool, List, Option, if◌then◌else◌}
+use Rattle.std.specs.Prelude.{◌==◌, ◌||◌, nat_lt, ℕ, ◌+◌, ◌-◌, Bool, List, Option, if◌then◌else◌}
 use Rattle.nm_rules.specs.Parties.{Party}
 use Rattle.nm_rules.specs.Checks.{refuse_if}
 use Rattle.nm_rules.specs.declared.args.LockType.{LockType}
@@ -33,9 +33,9 @@ greatest = 18446744073709551615
 unfoldable pub last_of : ℕ → ℕ → ℕ
 last_of offset length = if length == greatest then greatest else offset + length - 1
 
--- It has no byte, or one behind the last of all.
+-- It has no byte, or begins or ends behind the last of all.
 unfoldable pub is_no_range : ℕ → ℕ → Bool
-is_no_range offset length = (length == 0) || (not (length == greatest) && nat_lt greatest (offset + length))
+is_no_range offset length = (length == 0) || nat_lt greatest (if length == greatest then offset else offset + length)
 
 abbrev pub range_stop : ℕ → ℕ → Option OpStatus
 range_stop offset length = refuse_if (is_no_range offset length) Inval

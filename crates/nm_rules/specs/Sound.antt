@@ -10,6 +10,7 @@ use Rattle.nm_rules.specs.Seen.{Seen}
 use Rattle.nm_rules.specs.declared.calls.OwnerKind.TheVariants.{Opens}
 use Rattle.nm_rules.specs.declared.owners.OwnerRow.{OwnerRow}
 use Rattle.nm_rules.specs.declared.rows.FileRow.{FileRow}
+use Rattle.nm_rules.specs.declared.rows.LockRow.{LockRow}
 use Rattle.nm_rules.specs.declared.rows.OpenRow.{OpenRow}
 
 -- the counters rise, each above this one, and none is past the last
@@ -76,8 +77,13 @@ is_known owners row = not (is_none (owner_at row.owner owners))
 abbrev pub is_opener : OpenRow → Bool
 is_opener row = same_kind row.owner.kind Opens
 
--- A live open is of an owner of opens; and the owner of each open, live or closed by its owner's kept call, is known.
+abbrev pub is_locker : List OwnerRow → LockRow → Bool
+is_locker owners row = not (is_none (owner_at row.owner owners))
+
+-- A live open is of an owner of opens. The owner of each open, live or closed by its owner's kept call, is known, and so is that
+-- of each lock stateid.
 pub record OwnersAreKnown (s : Seen) : Type 0 where
   pub kinds : list_all is_opener s.opens ≡ true
   pub opens : list_all (is_known s.owners) s.opens ≡ true
   pub closed : list_all (is_known s.owners) s.closed ≡ true
+  pub locks : list_all (is_locker s.owners) s.locks ≡ true

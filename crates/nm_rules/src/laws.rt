@@ -65,8 +65,8 @@ pub fn files_are_in_directories()
     ensures { (fs : ℕ) (grants : Bool) (es : Past) → IsLegal fs grants es → all_stand_in (seen fs grants es).tree.table ≡ true }
 {}
 
-/// The owner of each live open is known, and so is that of each open whose CLOSE is its owner's kept call: an open has no owner of
-/// whom nothing is kept.
+/// The owner of each live open is an owner of opens, and is known. So is that of each open whose CLOSE is its owner's kept call, and
+/// that of each lock stateid: no stateid has an owner of whom nothing is kept.
 pub fn owners_of_opens_are_known()
     ensures { (fs : ℕ) (grants : Bool) (es : Past) → IsLegal fs grants es → OwnersAreKnown (seen fs grants es) }
 {}

@@ -4,7 +4,8 @@ ghost use Rattle.std.specs.Prelude.{◌≡◌};
 ghost use Rattle.nm_rules.specs.Repeats.{is_close, is_confirm, is_downgrade, is_lock, is_open, is_unlock, same_opentype, same_claim, same_deed, same_call};
 
 use crate::{
-    Call, Claim, CloseArgs, Deed, LockArgs, OpenArgs, OpenConfirmArgs, OpenDowngradeArgs, OpenType, UnlockArgs,
+    Call, Claim, CloseArgs, Deed, LockArgs, OpenArgs, OpenConfirmArgs, OpenDowngradeArgs, OpenType,
+    UnlockArgs,
 };
 
 #[tactic(auto, unfolding(crate::specs::Repeats::is_close))]

@@ -1,9 +1,11 @@
 pub mod AgainLaws
 pub mod DraftLaws
 pub mod HexLaws
+pub mod InOrder
 pub mod OutsideLemmas
 pub mod RunLaws
 pub mod ScriptLaws
+pub mod ShownLaws
 pub mod SourceLaws
 pub mod TextLemmas
 pub mod WordLaws

@@ -13,19 +13,23 @@ use Rattle.nm_rules.specs.declared.action.Action.{Action}
 use Rattle.nm_rules.specs.declared.action.Action.TheVariants as actions
 use Rattle.nm_rules.specs.declared.action.OpenAction.{OpenAction}
 use Rattle.nm_rules.specs.declared.action.CloseAction.{CloseAction}
+use Rattle.nm_rules.specs.declared.action.LockAction.{LockAction}
+use Rattle.nm_rules.specs.declared.action.UnlockAction.{UnlockAction}
+use Rattle.nm_rules.specs.declared.action.ReleaseAction.{ReleaseAction}
 use Rattle.nm_rules.specs.declared.action.ReadAction.{ReadAction}
 use Rattle.nm_rules.specs.declared.action.WriteAction.{WriteAction}
 use Rattle.nm_rules.specs.declared.action.SizeAction.{SizeAction}
 use Rattle.nm_rules.specs.declared.action.NameAction.{NameAction}
+use Rattle.nm_rules.specs.declared.results.LockKind.{LockKind}
 use Rattle.nm_script.specs.declared.script.Head.{Head}
 use Rattle.nm_script.specs.declared.script.Line.{Line}
 use Rattle.nm_script.specs.declared.script.Line.TheVariants.{Do, Finish, Move, Freeze, Abandon, Commit, Settle, Shift, Show}
 use Rattle.nm_script.specs.declared.script.Why.{Why}
 use Rattle.nm_script.specs.declared.script.Why.TheVariants as why
-use Rattle.nm_script.specs.Words.{is_name, is_file_name, number_at, access_at, deny_at, bytes_at}
-use Rattle.nm_script.specs.Grammar.{name_at, server_names, file_system_names, client_names, access_word, deny_word, open_words, close_words, read_words, write_words, size_words, file_words, action_words, fs_words, fs_to_words, run_words, all_differ, IsOpen, IsClose, IsRead, IsWrite, IsSize, IsFile, IsAction, IsRun}
-use Rattle.nm_script.specs.Reading.{◌>>=◌, place_below, server_number, file_system_number, client_number, open_action, close_action, count_at, read_action, write_action, size_action, file_action, root_at, file_at, close_at, size_at, open_at, action_at, done_by, action_line, finish_line, do_at, with_fs, with_fs_to, fs_line, fs_to_line, fs_at, run_line}
-use Rattle.nm_script.proofs.WordLaws.{or_false, and_true, not_true, chosen, same_word, word_itself, has_space, IsWord, number_found, number_again, decimal_is_word, name_found, name_again, name_is_word, file_name_found, file_name_again, file_name_is_word, access_found, access_again, access_is_word, deny_found, deny_again, deny_is_word}
+use Rattle.nm_script.specs.Words.{is_name, is_file_name, number_at, access_at, deny_at, lock_kind_at, bytes_at}
+use Rattle.nm_script.specs.Grammar.{name_at, server_names, file_system_names, client_names, access_word, deny_word, kind_word, open_words, close_words, lock_words, unlock_words, release_words, read_words, write_words, size_words, file_words, action_words, fs_words, fs_to_words, run_words, all_differ, IsOpen, IsClose, IsLock, IsUnlock, IsRelease, IsRead, IsWrite, IsSize, IsFile, IsAction, IsRun}
+use Rattle.nm_script.specs.Reading.{◌>>=◌, place_below, server_number, file_system_number, client_number, open_action, close_action, lock_action, unlock_action, release_action, count_at, read_action, write_action, size_action, file_action, root_at, file_at, close_at, size_at, open_at, lock_at, action_at, done_by, action_line, finish_line, do_at, with_fs, with_fs_to, fs_line, fs_to_line, fs_at, run_line}
+use Rattle.nm_script.proofs.WordLaws.{or_false, and_true, not_true, chosen, same_word, word_itself, has_space, IsWord, number_found, number_again, decimal_is_word, name_found, name_again, name_is_word, file_name_found, file_name_again, file_name_is_word, access_found, access_again, access_is_word, deny_found, deny_again, deny_is_word, kind_found, kind_again, kind_is_word}
 use Rattle.nm_script.proofs.HexLaws.{hex_found, hex_again, hex_is_word}
 
 -- the value of a step that did not fail
@@ -186,6 +190,71 @@ before_owner names first = cc
 between : {f file owner g h o x y x' y' : List ℕ} → f ∷ file ∷ owner ∷ [] ≡ g ∷ h ∷ o ∷ [] → x ≡ x' → y ≡ y' → f ∷ file ∷ x ∷ y ∷ owner ∷ [] ≡ g ∷ h ∷ x' ∷ y' ∷ o ∷ []
 between names first second = cc
 
+-- three words there
+three_between : {f file owner g h o x y z x' y' z' : List ℕ} → f ∷ file ∷ owner ∷ [] ≡ g ∷ h ∷ o ∷ [] → x ≡ x' → y ≡ y' → z ≡ z' → f ∷ file ∷ x ∷ y ∷ z ∷ owner ∷ [] ≡ g ∷ h ∷ x' ∷ y' ∷ z' ∷ o ∷ []
+three_between names first second third = cc
+
+-- a lock of those parts
+abbrev locks : LockKind → CloseAction → ℕ → ℕ → LockAction
+locks kind names offset long = record { fs = names.fs; file = names.file; kind = kind; offset = offset; length = long; owner = names.owner }
+
+lock_found : (head : Head) (f file kind_text offset_word length_word owner : List ℕ) (a : LockAction) → lock_action head f file kind_text offset_word length_word owner ≡ Ok a → (f ∷ file ∷ kind_text ∷ offset_word ∷ length_word ∷ owner ∷ [] ≡ lock_words head a) × IsLock head a
+unfolding lock_action
+lock_found head f file kind_text offset_word length_word owner a e =
+    let last : LockKind → CloseAction → ℕ → Result LockAction Why = λ kind names offset. number_at length_word >>= λ long. done (locks kind names offset long) in
+    let k = bind_ok (lock_kind_at kind_text) (λ kind. close_action head f file owner >>= λ names. number_at offset_word >>= λ offset. last kind names offset) a e in
+    let x = bind_ok (close_action head f file owner) (λ names. number_at offset_word >>= λ offset. last k.0 names offset) a k.2 in
+    let y = bind_ok (number_at offset_word) (λ offset. last k.0 x.0 offset) a x.2 in
+    let z = bind_ok (number_at length_word) (λ long. done (locks k.0 x.0 y.0 long)) a y.2 in
+    let names = close_found head f file owner x.0 x.1 in
+    let offset = number_found offset_word y.0 y.1 in
+    let long = number_found length_word z.0 z.1 in
+    subst (λ (l : LockAction). (f ∷ file ∷ kind_text ∷ offset_word ∷ length_word ∷ owner ∷ [] ≡ lock_words head l) × IsLock head l) (ok_is (locks k.0 x.0 y.0 z.0) a z.2) (
+      three_between names.0 (kind_found kind_text k.0 k.1) offset.0 long.0,
+      record { fs = names.1.fs; file = names.1.file; offset = offset.1; length = long.1; owner = names.1.owner },
+    )
+
+lock_again : (head : Head) (a : LockAction) → HasNames head → IsLock head a → lock_action head (name_at (file_system_names head) a.fs) a.file (kind_word a.kind) (decimal a.offset) (decimal a.length) a.owner ≡ Ok a
+unfolding lock_action close_action
+lock_again head a names is =
+    rw (kind_again a.kind, file_system_again head a.fs names is.fs, file_name_again a.file is.file, name_again a.owner is.owner, number_again a.offset is.offset, number_again a.length is.length) refl
+
+-- an unlock of those parts
+abbrev unlocks : CloseAction → ℕ → ℕ → UnlockAction
+unlocks names offset long = record { fs = names.fs; file = names.file; offset = offset; length = long; owner = names.owner }
+
+unlock_found : (head : Head) (f file offset_word length_word owner : List ℕ) (a : UnlockAction) → unlock_action head f file offset_word length_word owner ≡ Ok a → (f ∷ file ∷ offset_word ∷ length_word ∷ owner ∷ [] ≡ unlock_words head a) × IsUnlock head a
+unfolding unlock_action
+unlock_found head f file offset_word length_word owner a e =
+    let x = bind_ok (close_action head f file owner) (λ names. number_at offset_word >>= λ offset. number_at length_word >>= λ long. done (unlocks names offset long)) a e in
+    let y = bind_ok (number_at offset_word) (λ offset. number_at length_word >>= λ long. done (unlocks x.0 offset long)) a x.2 in
+    let z = bind_ok (number_at length_word) (λ long. done (unlocks x.0 y.0 long)) a y.2 in
+    let names = close_found head f file owner x.0 x.1 in
+    let offset = number_found offset_word y.0 y.1 in
+    let long = number_found length_word z.0 z.1 in
+    subst (λ (u : UnlockAction). (f ∷ file ∷ offset_word ∷ length_word ∷ owner ∷ [] ≡ unlock_words head u) × IsUnlock head u) (ok_is (unlocks x.0 y.0 z.0) a z.2) (
+      between names.0 offset.0 long.0,
+      record { fs = names.1.fs; file = names.1.file; offset = offset.1; length = long.1; owner = names.1.owner },
+    )
+
+unlock_again : (head : Head) (a : UnlockAction) → HasNames head → IsUnlock head a → unlock_action head (name_at (file_system_names head) a.fs) a.file (decimal a.offset) (decimal a.length) a.owner ≡ Ok a
+unfolding unlock_action close_action
+unlock_again head a names is =
+    rw (file_system_again head a.fs names is.fs, file_name_again a.file is.file, name_again a.owner is.owner, number_again a.offset is.offset, number_again a.length is.length) refl
+
+release_found : (head : Head) (f owner : List ℕ) (a : ReleaseAction) → release_action head f owner ≡ Ok a → (f ∷ owner ∷ [] ≡ release_words head a) × IsRelease head a
+unfolding release_action
+release_found head f owner a e =
+    let x = bind_ok (file_system_number head f) (λ fs. cond (is_name owner) (done (record { fs = fs; owner = owner })) (Err why.Name)) a e in
+    let g = guard_ok (is_name owner) why.Name (record { fs = x.0; owner = owner }) a x.2 in
+    let at = file_system_found head f x.0 x.1 in
+    subst (λ (r : ReleaseAction). (f ∷ owner ∷ [] ≡ release_words head r) × IsRelease head r) g.1
+    (ap (λ (w : List ℕ). w ∷ owner ∷ []) at.1, record { fs = at.0; owner = name_found owner g.0 })
+
+release_again : (head : Head) (a : ReleaseAction) → HasNames head → IsRelease head a → release_action head (name_at (file_system_names head) a.fs) a.owner ≡ Ok a
+unfolding release_action
+release_again head a names is = rw (file_system_again head a.fs names is.fs, name_again a.owner is.owner) refl
+
 count_found : (word : List ℕ) (count : ℕ) → count_at word ≡ Ok count → (word ≡ decimal count) × (count ≤ 65536)
 unfolding count_at
 count_found word count e =
@@ -316,7 +385,10 @@ on_file_found head verb f file a =
     (by_verb (IsAsked head) verb (codes "mkdir") words a _ _
     (made_found head (codes "mkdir") words (file_action head f file) actions.MkDir a
     (λ n e. let p = file_found head f file n e in (ap (λ (ws : List (List ℕ)). codes "mkdir" ∷ ws) p.0, p.1)))
-    (λ e. absurd cc))
+    (by_verb (IsAsked head) verb (codes "release") words a _ _
+    (made_found head (codes "release") words (release_action head f file) actions.Release a
+    (λ r e. let p = release_found head f file r e in (ap (λ (ws : List (List ℕ)). codes "release" ∷ ws) p.0, p.1)))
+    (λ e. absurd cc)))
 
 on_close_found : (head : Head) (verb f file owner : List ℕ) (a : Action) → close_at head verb f file owner ≡ Ok a → IsAsked head (verb ∷ f ∷ file ∷ owner ∷ []) a
 unfolding close_at
@@ -358,7 +430,25 @@ module _ (head : Head) (verb f file first second owner : List ℕ) (a : Action) 
       (by_verb (IsAsked head) verb (codes "write") five a _ _
       (made_found head (codes "write") five (write_action head f file first second owner) actions.Write a
       (λ w e. let p = write_found head f file first second owner w e in (ap (λ (ws : List (List ℕ)). codes "write" ∷ ws) p.0, p.1)))
-      (λ e. absurd cc)))))
+      (by_verb (IsAsked head) verb (codes "unlock") five a _ _
+      (made_found head (codes "unlock") five (unlock_action head f file first second owner) actions.Unlock a
+      (λ u e. let p = unlock_found head f file first second owner u e in (ap (λ (ws : List (List ℕ)). codes "unlock" ∷ ws) p.0, p.1)))
+      (λ e. absurd cc))))))
+
+module _ (head : Head) (verb f file kind_text offset_word length_word owner : List ℕ) (a : Action) where
+  abbrev six : List (List ℕ)
+  six = f ∷ file ∷ kind_text ∷ offset_word ∷ length_word ∷ owner ∷ []
+
+  on_lock_found : lock_at head verb f file kind_text offset_word length_word owner ≡ Ok a → IsAsked head (verb ∷ six) a
+  unfolding lock_at
+  on_lock_found =
+      by_verb (IsAsked head) verb (codes "lock") six a _ _
+      (made_found head (codes "lock") six (lock_action head f file kind_text offset_word length_word owner) actions.Lock a
+      (λ l e. let p = lock_found head f file kind_text offset_word length_word owner l e in (ap (λ (ws : List (List ℕ)). codes "lock" ∷ ws) p.0, p.1)))
+      (by_verb (IsAsked head) verb (codes "test") six a _ _
+      (made_found head (codes "test") six (lock_action head f file kind_text offset_word length_word owner) actions.Test a
+      (λ l e. let p = lock_found head f file kind_text offset_word length_word owner l e in (ap (λ (ws : List (List ℕ)). codes "test" ∷ ws) p.0, p.1)))
+      (λ e. absurd cc))
 
 action_found : (head : Head) (verb : List ℕ) (words : List (List ℕ)) (a : Action) → action_at head verb words ≡ Ok a → IsAsked head (verb ∷ words) a
 unfolding action_at
@@ -368,7 +458,8 @@ action_found head verb (f ∷ file ∷ []) a e = on_file_found head verb f file 
 action_found head verb (f ∷ file ∷ owner ∷ []) a e = on_close_found head verb f file owner a e
 action_found head verb (f ∷ file ∷ size_word ∷ owner ∷ []) a e = on_size_found head verb f file size_word owner a e
 action_found head verb (f ∷ file ∷ first ∷ second ∷ owner ∷ []) a e = on_open_found head verb f file first second owner a e
-action_found head verb (f ∷ file ∷ first ∷ second ∷ owner ∷ more ∷ words) a e = absurd cc
+action_found head verb (f ∷ file ∷ kind ∷ offset ∷ long ∷ owner ∷ []) a e = on_lock_found head verb f file kind offset long owner a e
+action_found head verb (f ∷ file ∷ kind ∷ offset ∷ long ∷ owner ∷ more ∷ words) a e = absurd cc
 
 -- ---- lines
 
@@ -462,11 +553,15 @@ run_found head (first ∷ words) line e = by_verb (IsSaid head) first (codes "do
 
 -- and what is spelled so is read
 pub run_again : (head : Head) (line : Line) → HasNames head → IsRun head line → run_line head (run_words head line) ≡ Ok line
-unfolding run_line do_at action_line finish_line fs_at fs_line fs_to_line action_at root_at file_at close_at size_at open_at
+unfolding run_line do_at action_line finish_line fs_at fs_line fs_to_line action_at root_at file_at close_at size_at open_at lock_at
 run_again head (Do client (actions.Open a)) names is = rw (open_again head a names is.1, client_again head client names is.0) refl
 run_again head (Do client (actions.Create a)) names is = rw (open_again head a names is.1, client_again head client names is.0) refl
 run_again head (Do client (actions.Close a)) names is = rw (close_again head a names is.1, client_again head client names is.0) refl
 run_again head (Do client (actions.Downgrade a)) names is = rw (open_again head a names is.1, client_again head client names is.0) refl
+run_again head (Do client (actions.Lock a)) names is = rw (lock_again head a names is.1, client_again head client names is.0) refl
+run_again head (Do client (actions.Unlock a)) names is = rw (unlock_again head a names is.1, client_again head client names is.0) refl
+run_again head (Do client (actions.Test a)) names is = rw (lock_again head a names is.1, client_again head client names is.0) refl
+run_again head (Do client (actions.Release a)) names is = rw (release_again head a names is.1, client_again head client names is.0) refl
 run_again head (Do client (actions.Read a)) names is = rw (read_again head a names is.1, client_again head client names is.0) refl
 run_again head (Do client (actions.Write a)) names is = rw (write_again head a names is.1, client_again head client names is.0) refl
 run_again head (Do client (actions.Size a)) names is = rw (size_again head a names is.1, client_again head client names is.0) refl
@@ -498,6 +593,17 @@ fs_to_are_words head verb fs to names word lt less = (word, (file_system_is_word
 close_are_words : (head : Head) (a : CloseAction) → HasNames head → IsClose head a → AllByRecursion IsWord (close_words head a)
 close_are_words head a names is = (file_system_is_word head a.fs names is.fs, (file_name_is_word a.file is.file, (name_is_word a.owner is.owner, tt)))
 
+lock_are_words : (head : Head) (a : LockAction) → HasNames head → IsLock head a → AllByRecursion IsWord (lock_words head a)
+lock_are_words head a names is =
+    (file_system_is_word head a.fs names is.fs, (file_name_is_word a.file is.file, (kind_is_word a.kind, (decimal_is_word a.offset is.offset, (decimal_is_word a.length is.length, (name_is_word a.owner is.owner, tt))))))
+
+unlock_are_words : (head : Head) (a : UnlockAction) → HasNames head → IsUnlock head a → AllByRecursion IsWord (unlock_words head a)
+unlock_are_words head a names is =
+    (file_system_is_word head a.fs names is.fs, (file_name_is_word a.file is.file, (decimal_is_word a.offset is.offset, (decimal_is_word a.length is.length, (name_is_word a.owner is.owner, tt)))))
+
+release_are_words : (head : Head) (a : ReleaseAction) → HasNames head → IsRelease head a → AllByRecursion IsWord (release_words head a)
+release_are_words head a names is = (file_system_is_word head a.fs names is.fs, (name_is_word a.owner is.owner, tt))
+
 read_are_words : (head : Head) (a : ReadAction) → HasNames head → IsRead head a → AllByRecursion IsWord (read_words head a)
 read_are_words head a names is =
     (file_system_is_word head a.fs names is.fs, (file_name_is_word a.file is.file, (decimal_is_word a.offset is.offset, (decimal_is_word a.count (omega (arith, is.count)), (name_is_word a.owner is.owner, tt)))))
@@ -518,6 +624,10 @@ action_are_words head (actions.Open a) names is = (keyword (codes "open") (omega
 action_are_words head (actions.Create a) names is = (keyword (codes "create") (omega arith) refl, open_are_words head a names is)
 action_are_words head (actions.Close a) names is = (keyword (codes "close") (omega arith) refl, close_are_words head a names is)
 action_are_words head (actions.Downgrade a) names is = (keyword (codes "downgrade") (omega arith) refl, open_are_words head a names is)
+action_are_words head (actions.Lock a) names is = (keyword (codes "lock") (omega arith) refl, lock_are_words head a names is)
+action_are_words head (actions.Unlock a) names is = (keyword (codes "unlock") (omega arith) refl, unlock_are_words head a names is)
+action_are_words head (actions.Test a) names is = (keyword (codes "test") (omega arith) refl, lock_are_words head a names is)
+action_are_words head (actions.Release a) names is = (keyword (codes "release") (omega arith) refl, release_are_words head a names is)
 action_are_words head (actions.Read a) names is = (keyword (codes "read") (omega arith) refl, read_are_words head a names is)
 action_are_words head (actions.Write a) names is = (keyword (codes "write") (omega arith) refl, write_are_words head a names is)
 action_are_words head (actions.Size a) names is = (keyword (codes "size") (omega arith) refl, size_are_words head a names is)

@@ -12,9 +12,11 @@ use Rattle.std.proofs.lemmas.Bool.Decides.{eqb_tells, nat_tests}
 use Rattle.std.proofs.lemmas.Slice.Eq.{bytes_eq-Decides}
 use Rattle.std.proofs.lemmas.Str.Parse.{IsNumeralModel, numerals_by_fold}
 use Rattle.std.proofs.lemmas.Fmt.{digits_decimal, digits_value-decimal, decimal-digits_value, decimal_nonempty, decimal_digit, first_decimal}
+use Rattle.nm_rules.specs.declared.results.LockKind.{LockKind}
+use Rattle.nm_rules.specs.declared.results.LockKind.TheVariants as kinds
 use Rattle.nm_script.specs.declared.script.Why.TheVariants.{Word, Number}
-use Rattle.nm_script.specs.Words.{words_of, is_name_byte, is_name, is_file_name, with_digit, digits_at, number_or_fault, number_at, access_at, deny_at}
-use Rattle.nm_script.specs.Grammar.{IsName, IsFileName, access_word, deny_word}
+use Rattle.nm_script.specs.Words.{words_of, is_name_byte, is_name, is_file_name, with_digit, digits_at, number_or_fault, number_at, access_at, deny_at, lock_kind_at}
+use Rattle.nm_script.specs.Grammar.{IsName, IsFileName, access_word, deny_word, kind_word}
 
 -- ---- tests
 
@@ -281,3 +283,24 @@ deny_again (suc (suc (suc (suc n)))) limit = absurd (omega arith)
 pub deny_is_word : (deny : ℕ) → deny ≤ 3 → IsWord (deny_word deny)
 deny_is_word zero limit = record { some = omega arith; whole = refl }
 deny_is_word (suc d) limit = subst IsWord (sym (deny_word_more d)) (access_is_word (suc d) (omega arith) limit)
+
+pub kind_found : (word : List ℕ) (kind : LockKind) → lock_kind_at word ≡ Ok kind → word ≡ kind_word kind
+unfolding lock_kind_at
+kind_found word kind e =
+    let P : LockKind → Type 0 = λ k. word ≡ kind_word k in
+    elim (chosen (bytes_eq word (codes "r")) (Ok kinds.Read) _ (Ok kind) e) [
+      | inl r ↦ let is : kinds.Read ≡ kind = cc in subst P is (same_word word (codes "r") r.0)
+      | inr f ↦ elim (chosen (bytes_eq word (codes "w")) (Ok kinds.Write) (Err Word) (Ok kind) f.1) [
+        | inl w ↦ let is : kinds.Write ≡ kind = cc in subst P is (same_word word (codes "w") w.0)
+        | inr g ↦ absurd cc
+      ]
+    ]
+
+pub kind_again : (kind : LockKind) → lock_kind_at (kind_word kind) ≡ Ok kind
+unfolding lock_kind_at
+kind_again kinds.Read = refl
+kind_again kinds.Write = refl
+
+pub kind_is_word : (kind : LockKind) → IsWord (kind_word kind)
+kind_is_word kinds.Read = record { some = omega arith; whole = refl }
+kind_is_word kinds.Write = record { some = omega arith; whole = refl }

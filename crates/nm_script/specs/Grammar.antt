@@ -9,10 +9,15 @@ use Rattle.nm_rules.specs.declared.action.Action.{Action}
 use Rattle.nm_rules.specs.declared.action.Action.TheVariants as actions
 use Rattle.nm_rules.specs.declared.action.OpenAction.{OpenAction}
 use Rattle.nm_rules.specs.declared.action.CloseAction.{CloseAction}
+use Rattle.nm_rules.specs.declared.action.LockAction.{LockAction}
+use Rattle.nm_rules.specs.declared.action.UnlockAction.{UnlockAction}
+use Rattle.nm_rules.specs.declared.action.ReleaseAction.{ReleaseAction}
 use Rattle.nm_rules.specs.declared.action.ReadAction.{ReadAction}
 use Rattle.nm_rules.specs.declared.action.WriteAction.{WriteAction}
 use Rattle.nm_rules.specs.declared.action.SizeAction.{SizeAction}
 use Rattle.nm_rules.specs.declared.action.NameAction.{NameAction}
+use Rattle.nm_rules.specs.declared.results.LockKind.{LockKind}
+use Rattle.nm_rules.specs.declared.results.LockKind.TheVariants as kinds
 use Rattle.nm_script.specs.declared.script.ServerRow.{ServerRow}
 use Rattle.nm_script.specs.declared.script.FsRow.{FsRow}
 use Rattle.nm_script.specs.declared.script.ClientRow.{ClientRow}
@@ -60,6 +65,11 @@ access_word access = if access == 1 then codes "r" else if access == 2 then code
 abbrev pub deny_word : ℕ → List ℕ
 deny_word deny = if deny == 0 then codes "none" else access_word deny
 
+-- KIND: r or w
+abbrev pub kind_word : LockKind → List ℕ
+kind_word kinds.Read = codes "r"
+kind_word kinds.Write = codes "w"
+
 -- F FILE ACC DENY OWNER
 abbrev pub open_words : Head → OpenAction → List (List ℕ)
 open_words head a = name_at (file_system_names head) a.fs ∷ a.file ∷ access_word a.access ∷ deny_word a.deny ∷ a.owner ∷ []
@@ -67,6 +77,18 @@ open_words head a = name_at (file_system_names head) a.fs ∷ a.file ∷ access_
 -- F FILE OWNER
 abbrev pub close_words : Head → CloseAction → List (List ℕ)
 close_words head a = name_at (file_system_names head) a.fs ∷ a.file ∷ a.owner ∷ []
+
+-- F FILE KIND OFFSET LENGTH OWNER
+abbrev pub lock_words : Head → LockAction → List (List ℕ)
+lock_words head a = name_at (file_system_names head) a.fs ∷ a.file ∷ kind_word a.kind ∷ decimal a.offset ∷ decimal a.length ∷ a.owner ∷ []
+
+-- F FILE OFFSET LENGTH OWNER
+abbrev pub unlock_words : Head → UnlockAction → List (List ℕ)
+unlock_words head a = name_at (file_system_names head) a.fs ∷ a.file ∷ decimal a.offset ∷ decimal a.length ∷ a.owner ∷ []
+
+-- F OWNER
+abbrev pub release_words : Head → ReleaseAction → List (List ℕ)
+release_words head a = name_at (file_system_names head) a.fs ∷ a.owner ∷ []
 
 -- F FILE OFFSET COUNT OWNER
 abbrev pub read_words : Head → ReadAction → List (List ℕ)
@@ -85,12 +107,17 @@ abbrev pub file_words : Head → NameAction → List (List ℕ)
 file_words head a = name_at (file_system_names head) a.fs ∷ a.file ∷ []
 
 -- open F FILE ACC DENY OWNER, create F FILE ACC DENY OWNER, close F FILE OWNER, downgrade F FILE ACC DENY OWNER,
+-- lock F FILE KIND OFFSET LENGTH OWNER, unlock F FILE OFFSET LENGTH OWNER, test F FILE KIND OFFSET LENGTH OWNER, release F OWNER,
 -- read F FILE OFFSET COUNT OWNER, write F FILE OFFSET HEX OWNER, size F FILE N OWNER, remove F FILE, mkdir F FILE, list F
 abbrev pub action_words : Head → Action → List (List ℕ)
 action_words head (actions.Open a) = codes "open" ∷ open_words head a
 action_words head (actions.Create a) = codes "create" ∷ open_words head a
 action_words head (actions.Close a) = codes "close" ∷ close_words head a
 action_words head (actions.Downgrade a) = codes "downgrade" ∷ open_words head a
+action_words head (actions.Lock a) = codes "lock" ∷ lock_words head a
+action_words head (actions.Unlock a) = codes "unlock" ∷ unlock_words head a
+action_words head (actions.Test a) = codes "test" ∷ lock_words head a
+action_words head (actions.Release a) = codes "release" ∷ release_words head a
 action_words head (actions.Read a) = codes "read" ∷ read_words head a
 action_words head (actions.Write a) = codes "write" ∷ write_words head a
 action_words head (actions.Size a) = codes "size" ∷ size_words head a
@@ -228,16 +255,40 @@ pub record IsSize (head : Head) (a : SizeAction) : Type 0 where
   pub size : a.size < 2 ^ 64
   pub owner : IsName a.owner
 
+-- the same with a place in the file and a length, which may be any numbers
+pub record IsLock (head : Head) (a : LockAction) : Type 0 where
+  pub fs : a.fs < length head.file_systems
+  pub file : IsFileName a.file
+  pub offset : a.offset < 2 ^ 64
+  pub length : a.length < 2 ^ 64
+  pub owner : IsName a.owner
+
+pub record IsUnlock (head : Head) (a : UnlockAction) : Type 0 where
+  pub fs : a.fs < length head.file_systems
+  pub file : IsFileName a.file
+  pub offset : a.offset < 2 ^ 64
+  pub length : a.length < 2 ^ 64
+  pub owner : IsName a.owner
+
 -- a file system of the head, and a file's name
 pub record IsFile (head : Head) (a : NameAction) : Type 0 where
   pub fs : a.fs < length head.file_systems
   pub file : IsFileName a.file
+
+-- a file system of the head, and an owner's name
+pub record IsRelease (head : Head) (a : ReleaseAction) : Type 0 where
+  pub fs : a.fs < length head.file_systems
+  pub owner : IsName a.owner
 
 abbrev pub IsAction : Head → Action → Type 0
 IsAction head (actions.Open a) = IsOpen head a
 IsAction head (actions.Create a) = IsOpen head a
 IsAction head (actions.Close a) = IsClose head a
 IsAction head (actions.Downgrade a) = IsOpen head a
+IsAction head (actions.Lock a) = IsLock head a
+IsAction head (actions.Unlock a) = IsUnlock head a
+IsAction head (actions.Test a) = IsLock head a
+IsAction head (actions.Release a) = IsRelease head a
 IsAction head (actions.Read a) = IsRead head a
 IsAction head (actions.Write a) = IsWrite head a
 IsAction head (actions.Size a) = IsSize head a

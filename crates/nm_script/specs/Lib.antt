@@ -1,4 +1,5 @@
 pub mod Grammar
+pub mod LockText
 pub mod MoveText
 pub mod OutcomeText
 pub mod Outside

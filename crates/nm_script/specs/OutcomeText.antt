@@ -7,9 +7,10 @@ use Rattle.nm_rules.specs.declared.results.ReadOk.{ReadOk}
 use Rattle.nm_rules.specs.declared.status.OpStatus.{OpStatus}
 use Rattle.nm_rules.specs.declared.status.OpStatus.TheVariants.{Nfs4Ok, NoEnt, Exist, NotDir, IsDir, Inval, FBig, NoSpc, NameTooLong, NotEmpty, Stale, BadHandle, NotSupp, TooSmall, ServerFault, BadType, Delay, Denied, Expired, Locked, Grace, ShareDenied, ClidInUse, Resource, Moved, NoFileHandle, MinorVersMismatch, StaleClientId, StaleStateId, OldStateId, BadStateId, BadSeqid, NotSame, RestoreFh, LeaseMoved, AttrNotSupp, NoGrace, BadXdr, LocksHeld, OpenMode, BadName, OpIllegal, FileOpen}
 use Rattle.nm_script.specs.declared.report.Told.{Told}
-use Rattle.nm_script.specs.declared.report.Told.TheVariants.{Answered, Wrote, Read, Listed, Refused, NoState, Busy, Delayed, Stopped}
+use Rattle.nm_script.specs.declared.report.Told.TheVariants.{Answered, Wrote, Read, Listed, Denied as DeniedBy, Refused, NoState, Busy, Delayed, Stopped}
 use Rattle.nm_script.specs.declared.report.OutcomeRow.{OutcomeRow}
 use Rattle.nm_script.specs.declared.report.IdleRow.{IdleRow}
+use Rattle.nm_script.specs.LockText.{denied_text}
 use Rattle.nm_script.specs.Writing.{line_feed}
 
 -- A status is printed by its name in the standard (RFC 7530, 13.1), without NFS4_ or NFS4ERR_ at its front.
@@ -63,6 +64,10 @@ verb_text verbs.Open = codes "open"
 verb_text verbs.Create = codes "create"
 verb_text verbs.Close = codes "close"
 verb_text verbs.Downgrade = codes "downgrade"
+verb_text verbs.Lock = codes "lock"
+verb_text verbs.Unlock = codes "unlock"
+verb_text verbs.Test = codes "test"
+verb_text verbs.Release = codes "release"
 verb_text verbs.Read = codes "read"
 verb_text verbs.Write = codes "write"
 verb_text verbs.Size = codes "size"
@@ -89,12 +94,13 @@ unfoldable pub name_text : List ℕ → List ℕ
 name_text name = codes " " ++ name
 
 -- What a client was told: a status, which where it is OK has behind it the count of what was written, what was read or
--- the names of a directory; the status of another operation of the request; or why none came.
+-- the names of a directory, and where it is DENIED what is in the way of a lock; the status of another operation of the request; or why none came.
 unfoldable pub told_text : Told → List ℕ
 told_text (Answered status) = status_text status
 told_text (Wrote count) = codes "OK " ++ decimal count
 told_text (Read ok) = codes "OK " ++ read_text ok
 told_text (Listed names) = codes "OK" ++ flat_map name_text names
+told_text (DeniedBy denied) = denied_text denied
 told_text (Refused status) = codes "REFUSED " ++ status_text status
 told_text NoState = codes "NOSTATE"
 told_text Busy = codes "BUSY"

@@ -6,6 +6,9 @@ use Rattle.nm_rules.specs.declared.action.Action.{Action}
 use Rattle.nm_rules.specs.declared.action.Action.TheVariants as actions
 use Rattle.nm_rules.specs.declared.action.OpenAction.{OpenAction}
 use Rattle.nm_rules.specs.declared.action.CloseAction.{CloseAction}
+use Rattle.nm_rules.specs.declared.action.LockAction.{LockAction}
+use Rattle.nm_rules.specs.declared.action.UnlockAction.{UnlockAction}
+use Rattle.nm_rules.specs.declared.action.ReleaseAction.{ReleaseAction}
 use Rattle.nm_rules.specs.declared.action.ReadAction.{ReadAction}
 use Rattle.nm_rules.specs.declared.action.WriteAction.{WriteAction}
 use Rattle.nm_rules.specs.declared.action.SizeAction.{SizeAction}
@@ -23,7 +26,7 @@ use Rattle.nm_script.specs.declared.order.Kind.{Kind}
 use Rattle.nm_script.specs.declared.order.Kind.TheVariants as kind
 use Rattle.nm_script.specs.declared.fault.LineFault.{LineFault}
 use Rattle.nm_script.specs.declared.fault.LineFault.TheVariants as line_faults
-use Rattle.nm_script.specs.Words.{words_of, has_empty_word, is_printable, says_something, is_name, is_file_name, number_at, access_at, deny_at, bytes_at}
+use Rattle.nm_script.specs.Words.{words_of, has_empty_word, is_printable, says_something, is_name, is_file_name, number_at, access_at, deny_at, lock_kind_at, bytes_at}
 
 infixl 10 ◌>>=◌
 abbrev pub ◌>>=◌ : {A B E : Type 0} → Result A E → (A → Result B E) → Result B E
@@ -130,6 +133,27 @@ close_action head f file owner = do
   fs ← file_system_number head f
   if is_file_name file && is_name owner then Ok (record { fs = fs; file = file; owner = owner }) else Err why.Name
 
+-- The keyword comes first, and then the names of a close.
+unfoldable pub lock_action : Head → List ℕ → List ℕ → List ℕ → List ℕ → List ℕ → List ℕ → Result LockAction Why
+lock_action head f file kind_word offset_word length_word owner = do
+  kind ← lock_kind_at kind_word
+  names ← close_action head f file owner
+  offset ← number_at offset_word
+  length ← number_at length_word
+  Ok (record { fs = names.fs; file = names.file; kind = kind; offset = offset; length = length; owner = names.owner })
+
+unfoldable pub unlock_action : Head → List ℕ → List ℕ → List ℕ → List ℕ → List ℕ → Result UnlockAction Why
+unlock_action head f file offset_word length_word owner = do
+  names ← close_action head f file owner
+  offset ← number_at offset_word
+  length ← number_at length_word
+  Ok (record { fs = names.fs; file = names.file; offset = offset; length = length; owner = names.owner })
+
+unfoldable pub release_action : Head → List ℕ → List ℕ → Result ReleaseAction Why
+release_action head f owner = do
+  fs ← file_system_number head f
+  if is_name owner then Ok (record { fs = fs; owner = owner }) else Err why.Name
+
 -- how many bytes a read asks: at most 65,536
 unfoldable pub count_at : List ℕ → Result ℕ Why
 count_at word = do
@@ -167,11 +191,12 @@ unfoldable pub root_at : Head → List ℕ → List ℕ → Result Action Why
 root_at head verb f =
     if bytes_eq verb (codes "list") then (file_system_number head f >>= λ fs. Ok (actions.List fs)) else Err why.Word
 
--- `VERB F FILE`
+-- `VERB F FILE` or `VERB F OWNER`
 unfoldable pub file_at : Head → List ℕ → List ℕ → List ℕ → Result Action Why
 file_at head verb f file =
     if bytes_eq verb (codes "remove") then (file_action head f file >>= λ a. Ok (actions.Remove a)) else
-    if bytes_eq verb (codes "mkdir") then (file_action head f file >>= λ a. Ok (actions.MkDir a)) else Err why.Word
+    if bytes_eq verb (codes "mkdir") then (file_action head f file >>= λ a. Ok (actions.MkDir a)) else
+    if bytes_eq verb (codes "release") then (release_action head f file >>= λ a. Ok (actions.Release a)) else Err why.Word
 
 -- `VERB F FILE OWNER`
 unfoldable pub close_at : Head → List ℕ → List ℕ → List ℕ → List ℕ → Result Action Why
@@ -192,6 +217,14 @@ open_at head verb f file first second owner =
     if bytes_eq verb (codes "downgrade") then (open_action head f file first second owner >>= λ a. Ok (actions.Downgrade a)) else
     if bytes_eq verb (codes "read") then (read_action head f file first second owner >>= λ a. Ok (actions.Read a)) else
     if bytes_eq verb (codes "write") then (write_action head f file first second owner >>= λ a. Ok (actions.Write a)) else
+    if bytes_eq verb (codes "unlock") then (unlock_action head f file first second owner >>= λ a. Ok (actions.Unlock a)) else
+    Err why.Word
+
+-- `VERB F FILE KIND OFFSET LENGTH OWNER`
+unfoldable pub lock_at : Head → List ℕ → List ℕ → List ℕ → List ℕ → List ℕ → List ℕ → List ℕ → Result Action Why
+lock_at head verb f file kind offset length_word owner =
+    if bytes_eq verb (codes "lock") then (lock_action head f file kind offset length_word owner >>= λ a. Ok (actions.Lock a)) else
+    if bytes_eq verb (codes "test") then (lock_action head f file kind offset length_word owner >>= λ a. Ok (actions.Test a)) else
     Err why.Word
 
 unfoldable pub action_at : Head → List ℕ → List (List ℕ) → Result Action Why
@@ -200,6 +233,7 @@ action_at head verb (f ∷ file ∷ []) = file_at head verb f file
 action_at head verb (f ∷ file ∷ owner ∷ []) = close_at head verb f file owner
 action_at head verb (f ∷ file ∷ size_word ∷ owner ∷ []) = size_at head verb f file size_word owner
 action_at head verb (f ∷ file ∷ first ∷ second ∷ owner ∷ []) = open_at head verb f file first second owner
+action_at head verb (f ∷ file ∷ kind ∷ offset ∷ length_word ∷ owner ∷ []) = lock_at head verb f file kind offset length_word owner
 action_at head verb _ = Err why.Word
 
 -- a fault of the words comes before one of the client's name, and that before one of the numbers

@@ -6,6 +6,8 @@ use Rattle.std.specs.Option.{option_and_then}
 use Rattle.std.specs.Str.{bytes_eq}
 use Rattle.hex.specs.Hex.{decode_of}
 use Rattle.hex.specs.declared.error.FromHexError.{FromHexError}
+use Rattle.nm_rules.specs.declared.results.LockKind.{LockKind}
+use Rattle.nm_rules.specs.declared.results.LockKind.TheVariants.{Read, Write}
 use Rattle.nm_script.specs.declared.script.Why.{Why}
 use Rattle.nm_script.specs.declared.script.Why.TheVariants.{Word, Number}
 
@@ -77,6 +79,12 @@ access_at word =
 -- the same of others, or none of it
 unfoldable pub deny_at : List ℕ → Result ℕ Why
 deny_at word = if bytes_eq word (codes "none") then Ok 0 else access_at word
+
+-- the kind of a lock: r reads, w writes
+unfoldable pub lock_kind_at : List ℕ → Result LockKind Why
+lock_kind_at word =
+    if bytes_eq word (codes "r") then Ok Read else
+    if bytes_eq word (codes "w") then Ok Write else Err Word
 
 -- a hexadecimal digit, 0 to 9 or a to f
 unfoldable pub is_small_digit : ℕ → Bool

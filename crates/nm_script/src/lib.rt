@@ -3,6 +3,7 @@
 
 mod draft;
 mod fault;
+mod lock_text;
 mod memory;
 mod move_text;
 mod names;

@@ -3,6 +3,7 @@ ghost use Rattle.std.specs.Prelude.{◌≡◌, ◌++◌, flat_map, OnOk, OnErr};
 ghost use Rattle.nm_script.specs.OutcomeText.{status_text, verb_text, data_text, end_text, read_text, name_text, told_text, outcome_text, idle_text};
 ghost use Rattle.nm_script.specs.Writing.{Stands};
 
+use crate::lock_text::append_denied;
 use crate::writing::{append, append_number};
 use crate::{IdleRow, OutcomeRow, Told};
 use nm_rules::{Bytes, Memory, OpStatus, ReadOk, Verb};
@@ -69,6 +70,10 @@ fn verb_word(verb: Verb) -> &'static [u8]
         Verb::Create => b"create",
         Verb::Close => b"close",
         Verb::Downgrade => b"downgrade",
+        Verb::Lock => b"lock",
+        Verb::Unlock => b"unlock",
+        Verb::Test => b"test",
+        Verb::Release => b"release",
         Verb::Read => b"read",
         Verb::Write => b"write",
         Verb::Size => b"size",
@@ -148,6 +153,7 @@ fn append_told(out: &mut Vec<u8>, told: &Told) -> Result<(), Memory>
             append(out, b"OK")?;
             append_listed(out, names.items())
         }
+        Told::Denied(denied) => append_denied(out, denied),
         Told::Refused(status) => {
             append(out, b"REFUSED ")?;
             append(out, status_word(*status))

@@ -1,5 +1,5 @@
 //! What came of a line, with texts for names: the rows that it prints.
-use nm_rules::{Bytes, Cause, HeldTable, Items, MoveNum, OpStatus, ReadOk, Verb};
+use nm_rules::{Bytes, Cause, Denied, HeldTable, Items, MoveNum, OpStatus, ReadOk, Verb};
 
 /// Names of files and directories.
 pub type Names = Items<Bytes>;
@@ -15,6 +15,8 @@ pub enum Told {
     Read(ReadOk),
     /// The names in a directory: `OK` and each of them, or `OK` alone.
     Listed(Names),
+    /// What is in the way of a lock: `DENIED OWNER KIND OFFSET LENGTH`.
+    Denied(Denied),
     /// The status of another operation of the request, which failed: `REFUSED STATUS`.
     Refused(OpStatus),
     /// The action needs a stateid that the client hasn't; nothing was sent: `NOSTATE`.

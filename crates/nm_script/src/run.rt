@@ -5,10 +5,11 @@ ghost use Rattle.nm_script.specs.Reading.{Gives};
 
 use crate::fault::LineFault;
 use crate::names::{client_number, file_system_number, server_number};
-use crate::words::{access, bytes, count, deny, is_file_name, is_name, is_word, number};
+use crate::words::{access, bytes, count, deny, is_file_name, is_name, is_word, lock_kind, number};
 use crate::{Head, Line, Why};
 use nm_rules::{
-    Action, Bytes, CloseAction, NameAction, OpenAction, ReadAction, SizeAction, WriteAction,
+    Action, Bytes, CloseAction, LockAction, NameAction, OpenAction, ReadAction, ReleaseAction,
+    SizeAction, UnlockAction, WriteAction,
 };
 use std::alloc::Global;
 
@@ -58,6 +59,79 @@ fn close_action(
     Ok(CloseAction {
         fs,
         file: Bytes::from_slice(alloc, file)?,
+        owner: Bytes::from_slice(alloc, owner)?,
+    })
+}
+
+/// `F FILE KIND OFFSET LENGTH OWNER`. The keyword is judged before the names, and these before the numbers.
+#[tactic(auto, unfolding(crate::specs::Reading::lock_action))]
+fn lock_action(
+    alloc: Global,
+    head: &Head,
+    fs: &[u8],
+    file: &[u8],
+    kind_word: &[u8],
+    offset_word: &[u8],
+    length_word: &[u8],
+    owner: &[u8],
+) -> Result<LockAction, LineFault>
+    ensures { Gives result (spec.lock_action head.now fs.now file.now kind_word.now offset_word.now length_word.now owner.now) }
+{
+    let kind = lock_kind(kind_word)?;
+    let CloseAction { fs, file, owner } = close_action(alloc, head, fs, file, owner)?;
+    let offset = number(offset_word)?;
+    let length = number(length_word)?;
+    Ok(LockAction {
+        fs,
+        file,
+        kind,
+        offset,
+        length,
+        owner,
+    })
+}
+
+/// `F FILE OFFSET LENGTH OWNER`. The names are judged before the numbers.
+#[tactic(auto, unfolding(crate::specs::Reading::unlock_action))]
+fn unlock_action(
+    alloc: Global,
+    head: &Head,
+    fs: &[u8],
+    file: &[u8],
+    offset_word: &[u8],
+    length_word: &[u8],
+    owner: &[u8],
+) -> Result<UnlockAction, LineFault>
+    ensures { Gives result (spec.unlock_action head.now fs.now file.now offset_word.now length_word.now owner.now) }
+{
+    let CloseAction { fs, file, owner } = close_action(alloc, head, fs, file, owner)?;
+    let offset = number(offset_word)?;
+    let length = number(length_word)?;
+    Ok(UnlockAction {
+        fs,
+        file,
+        offset,
+        length,
+        owner,
+    })
+}
+
+/// `F OWNER`.
+#[tactic(auto, unfolding(crate::specs::Reading::release_action))]
+fn release_action(
+    alloc: Global,
+    head: &Head,
+    fs: &[u8],
+    owner: &[u8],
+) -> Result<ReleaseAction, LineFault>
+    ensures { Gives result (spec.release_action head.now fs.now owner.now) }
+{
+    let fs = file_system_number(head, fs)?;
+    if !is_name(owner) {
+        return Err(LineFault::Bad(Why::Name));
+    }
+    Ok(ReleaseAction {
+        fs,
         owner: Bytes::from_slice(alloc, owner)?,
     })
 }
@@ -160,7 +234,7 @@ fn on_root(head: &Head, verb: &[u8], fs: &[u8]) -> Result<Action, Why>
     Ok(Action::List(file_system_number(head, fs)?))
 }
 
-/// `remove F FILE` or `mkdir F FILE`.
+/// `remove F FILE`, `mkdir F FILE` or `release F OWNER`.
 #[tactic(auto, unfolding(crate::specs::Reading::file_at))]
 fn on_file(
     alloc: Global,
@@ -176,6 +250,9 @@ fn on_file(
     }
     if is_word(verb, b"mkdir") {
         return Ok(Action::MkDir(file_action(alloc, head, fs, file)?));
+    }
+    if is_word(verb, b"release") {
+        return Ok(Action::Release(release_action(alloc, head, fs, file)?));
     }
     Err(LineFault::Bad(Why::Word))
 }
@@ -218,8 +295,8 @@ fn set_size(
     Ok(Action::Size(size))
 }
 
-/// `open F FILE ACC DENY OWNER`, the same with `create` or `downgrade`, `read F FILE OFFSET COUNT OWNER` or
-/// `write F FILE OFFSET HEX OWNER`.
+/// `open F FILE ACC DENY OWNER`, the same with `create` or `downgrade`, `read F FILE OFFSET COUNT OWNER`,
+/// `write F FILE OFFSET HEX OWNER` or `unlock F FILE OFFSET LENGTH OWNER`.
 #[tactic(auto, unfolding(crate::specs::Reading::open_at))]
 fn on_open(
     alloc: Global,
@@ -253,6 +330,36 @@ fn on_open(
         let writes = write_action(alloc, head, fs, file, first, second, owner)?;
         return Ok(Action::Write(writes));
     }
+    if is_word(verb, b"unlock") {
+        let unlocks = unlock_action(alloc, head, fs, file, first, second, owner)?;
+        return Ok(Action::Unlock(unlocks));
+    }
+    Err(LineFault::Bad(Why::Word))
+}
+
+/// `lock F FILE KIND OFFSET LENGTH OWNER` or the same with `test`.
+#[tactic(auto, unfolding(crate::specs::Reading::lock_at))]
+fn on_lock(
+    alloc: Global,
+    head: &Head,
+    verb: &[u8],
+    fs: &[u8],
+    file: &[u8],
+    kind: &[u8],
+    offset: &[u8],
+    length: &[u8],
+    owner: &[u8],
+) -> Result<Action, LineFault>
+    ensures { Gives result (spec.lock_at head.now verb.now fs.now file.now kind.now offset.now length.now owner.now) }
+{
+    if is_word(verb, b"lock") {
+        let locks = lock_action(alloc, head, fs, file, kind, offset, length, owner)?;
+        return Ok(Action::Lock(locks));
+    }
+    if is_word(verb, b"test") {
+        let tests = lock_action(alloc, head, fs, file, kind, offset, length, owner)?;
+        return Ok(Action::Test(tests));
+    }
     Err(LineFault::Bad(Why::Word))
 }
 
@@ -268,6 +375,9 @@ fn action(alloc: Global, head: &Head, verb: &[u8], words: &[&[u8]]) -> Result<Ac
         [fs, file, size, owner] => set_size(alloc, head, verb, fs, file, size, owner),
         [fs, file, first, second, owner] => {
             on_open(alloc, head, verb, fs, file, first, second, owner)
+        }
+        [fs, file, kind, offset, length, owner] => {
+            on_lock(alloc, head, verb, fs, file, kind, offset, length, owner)
         }
         _ => Err(LineFault::Bad(Why::Word)),
     }

@@ -58,7 +58,8 @@ pub fn append_line_text(out: &mut Vec<u8>, report: &Report) -> Result<(), Memory
 }
 
 /// What a line of a script prints: its rows in order, each on a line of its own, and what is held as a phase line and
-/// behind it a line `  open FILE OWNER ACC DENY` for each open. `Memory` where an allocation failed.
+/// behind it a line `  open FILE OWNER ACC DENY` for each open and a line `  lock FILE OWNER KIND OFFSET LENGTH` for
+/// each range that is locked. `Memory` where an allocation failed.
 pub fn line_text(alloc: Global, report: &Report) -> Result<Vec<u8>, Memory>
     ensures { IfOk result (λ text. text.items ≡ report_text report.now) }
 {
@@ -67,8 +68,9 @@ pub fn line_text(alloc: Global, report: &Report) -> Result<Vec<u8>, Memory>
     Ok(out)
 }
 
-/// What is held in the file system of that name: its phase line, and a line `  open FILE OWNER ACC DENY` for each row, in
-/// the table's order. `Memory` where an allocation failed.
+/// What is held in the file system of that name: its phase line, a line `  open FILE OWNER ACC DENY` for each open, in the
+/// table's order, and a line `  lock FILE OWNER KIND OFFSET LENGTH` for each range that is locked, by the file's number, the
+/// first byte and the counter of the stateid. `Memory` where an allocation failed.
 pub fn held_text(
     alloc: Global,
     name: &[u8],

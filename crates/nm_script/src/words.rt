@@ -7,7 +7,7 @@ ghost use Rattle.nm_script.specs.Reading.{Gives, count_at};
 use crate::Why;
 use crate::fault::LineFault;
 use hex::FromHexError;
-use nm_rules::{Bytes, Memory};
+use nm_rules::{Bytes, LockKind, Memory};
 use std::alloc::Global;
 
 /// The words of a line, which stand apart by one space. Two spaces have an empty word between them.
@@ -156,6 +156,20 @@ pub(crate) fn deny(word: &[u8]) -> Result<u32, Why>
         return Ok(0);
     }
     access(word)
+}
+
+/// The kind of a lock by its word.
+#[tactic(auto, unfolding(crate::specs::Words::lock_kind_at))]
+pub(crate) fn lock_kind(word: &[u8]) -> Result<LockKind, Why>
+    ensures { result ≡ spec.lock_kind_at word.now }
+{
+    if is_word(word, b"r") {
+        return Ok(LockKind::Read);
+    }
+    if is_word(word, b"w") {
+        return Ok(LockKind::Write);
+    }
+    Err(Why::Word)
 }
 
 /// How many bytes a read asks: at most 65,536.

@@ -5,6 +5,7 @@ use Rattle.nm_rules.specs.declared.action.Action.{Action}
 use Rattle.nm_rules.specs.declared.calls.Call.{Call}
 use Rattle.nm_rules.specs.declared.calls.Reply.{Reply}
 use Rattle.nm_rules.specs.declared.calls.Verdict.TheVariants.{Pass}
+use Rattle.nm_script.specs.declared.script.ClientRow.{ClientRow}
 use Rattle.nm_slot.specs.declared.answers.Answer.{Answer}
 use Rattle.nm_slot.specs.declared.answers.Enter.{Enter}
 use Rattle.nm_slot.specs.declared.answers.Enter.TheVariants as enter
@@ -146,30 +147,30 @@ ask_same n s epoch further further' f t knows reply listed None same stands out 
     record { file = stands; known = refl; reply = refl; names = refl; out = out }
 ask_same n s epoch further further' f t knows reply listed (Some more) same stands out = same more
 
-asks_same : (k n : ℕ) (f : FileNow) (t : FileTables) (s epoch client : ℕ) (act : Action) (call : Call) (known : Known) (names : List (List ℕ)) → Stands n f t → s < n
+asks_same : (k n : ℕ) (f : FileNow) (t : FileTables) (s epoch client : ℕ) (row : ClientRow) (act : Action) (call : Call) (known : Known) (names : List (List ℕ)) → Stands n f t → s < n
     → is_out epoch (passes_now f.moments s) ≡ true
-    → IsAsked n s epoch (asks k f s epoch client act call known names) (asks_to k t s epoch client act call known names)
+    → IsAsked n s epoch (asks k f s epoch client row act call known names) (asks_to k t s epoch client row act call known names)
 unfolding asks asks_to
-asks_same zero n f t s epoch client act call known names stands below out =
+asks_same zero n f t s epoch client row act call known names stands below out =
     record { file = stands; known = refl; reply = refl; names = refl; out = out }
-asks_same (suc k) n f t s epoch client act call known names stands below out =
+asks_same (suc k) n f t s epoch client row act call known names stands below out =
     let a : Answer = apply_answer (at_server f s) epoch call Pass in
     let reply : Reply = reply_of call a in
     let listed : List (List ℕ) = names ++ names_of reply.value in
-    let knows : Known = learned client act call.deed reply known in
+    let knows : Known = learned client act call reply known in
     let f' : FileNow = did f s (Applying epoch call Pass a) in
     let t' : FileTables = stepped t s (Applying epoch call Pass a) in
     let after : Stands n f' t' = plain_stands n f t s (Applying epoch call Pass a) stands (record { answered = refl; delivered = out })
     (kept_inside n f t s (Applying epoch call Pass a) stands below) tt refl in
     let still : is_out epoch (passes_now f'.moments s) ≡ true = ap (is_out epoch) (apply_out f s epoch call a) ∙ out in
-    subst (λ v. IsAsked n s epoch (asks (suc k) f s epoch client act call known names)
-    (ask_to (λ u more its all. asks_to k u s epoch client act more its all) (stepped t s (Applying epoch call Pass (apply_answer v epoch call Pass)))
-    (learned client act call.deed (reply_of call (apply_answer v epoch call Pass)) known)
+    subst (λ v. IsAsked n s epoch (asks (suc k) f s epoch client row act call known names)
+    (ask_to (λ u more its all. asks_to k u s epoch client row act more its all) (stepped t s (Applying epoch call Pass (apply_answer v epoch call Pass)))
+    (learned client act call (reply_of call (apply_answer v epoch call Pass)) known)
     (reply_of call (apply_answer v epoch call Pass)) (names ++ names_of (reply_of call (apply_answer v epoch call Pass)).value)
-    (goes_on_with call (reply_of call (apply_answer v epoch call Pass)).value))) (sym (stands.slots s))
-    (ask_same n s epoch (λ g more its all. asks k g s epoch client act more its all) (λ u more its all. asks_to k u s epoch client act more its all)
-    f' t' knows reply listed (goes_on_with call reply.value)
-    (λ more. asks_same k n f' t' s epoch client act more knows listed after below still) after still)
+    (goes_on_with client row act call (reply_of call (apply_answer v epoch call Pass)).value))) (sym (stands.slots s))
+    (ask_same n s epoch (λ g more its all. asks k g s epoch client row act more its all) (λ u more its all. asks_to k u s epoch client row act more its all)
+    f' t' knows reply listed (goes_on_with client row act call reply.value)
+    (λ more. asks_same k n f' t' s epoch client row act more knows listed after below still) after still)
 
 -- what the client knows then, and is told
 told_same : (n : ℕ) (f : FileNow) (t : FileTables) (client : ℕ) (act : Action) (known : Known) (names : List (List ℕ)) (reply : Option Reply) → Stands n f t
@@ -194,64 +195,64 @@ asked_same n s epoch client act asked to below same =
     (told_same n (did asked.file s (Leaving epoch)) (stepped to.file s (Leaving epoch)) client act asked.known asked.names asked.reply left)))
 
 -- so many requests
-calls_by : (k n : ℕ) (f : FileNow) (t : FileTables) (s epoch client : ℕ) (act : Action) (call : Call) (known : Known) → Stands n f t → s < n
+calls_by : (k n : ℕ) (f : FileNow) (t : FileTables) (s epoch client : ℕ) (row : ClientRow) (act : Action) (call : Call) (known : Known) → Stands n f t → s < n
     → is_out epoch (passes_now f.moments s) ≡ true
-    → IsTried n (after_asking (did (asks k f s epoch client act call known []).file s (Leaving epoch)) client act (asks k f s epoch client act call known []).known
-    (asks k f s epoch client act call known []).names (asks k f s epoch client act call known []).reply)
-    (asked_to (stepped (asks_to k t s epoch client act call known []).file s (Leaving epoch)) client act (asks_to k t s epoch client act call known []).known
-    (asks_to k t s epoch client act call known []).names (asks_to k t s epoch client act call known []).reply)
-calls_by k n f t s epoch client act call known stands below out =
-    asked_same n s epoch client act (asks k f s epoch client act call known []) (asks_to k t s epoch client act call known []) below
-    (asks_same k n f t s epoch client act call known [] stands below out)
+    → IsTried n (after_asking (did (asks k f s epoch client row act call known []).file s (Leaving epoch)) client act (asks k f s epoch client row act call known []).known
+    (asks k f s epoch client row act call known []).names (asks k f s epoch client row act call known []).reply)
+    (asked_to (stepped (asks_to k t s epoch client row act call known []).file s (Leaving epoch)) client act (asks_to k t s epoch client row act call known []).known
+    (asks_to k t s epoch client row act call known []).names (asks_to k t s epoch client row act call known []).reply)
+calls_by k n f t s epoch client row act call known stands below out =
+    asked_same n s epoch client act (asks k f s epoch client row act call known []) (asks_to k t s epoch client row act call known []) below
+    (asks_same k n f t s epoch client row act call known [] stands below out)
 
-calls_same : (n : ℕ) (f : FileNow) (t : FileTables) (s epoch client : ℕ) (act : Action) (call : Call) (known : Known) → Stands n f t → s < n
-    → is_out epoch (passes_now f.moments s) ≡ true → IsTried n (calls_at f s epoch client act call known) (calls_to t s epoch client act call known)
+calls_same : (n : ℕ) (f : FileNow) (t : FileTables) (s epoch client : ℕ) (row : ClientRow) (act : Action) (call : Call) (known : Known) → Stands n f t → s < n
+    → is_out epoch (passes_now f.moments s) ≡ true → IsTried n (calls_at f s epoch client row act call known) (calls_to t s epoch client row act call known)
 unfolding calls_at calls_to
-calls_same n f t s epoch client act call known stands below out = calls_by requests_limit n f t s epoch client act call known stands below out
+calls_same n f t s epoch client row act call known stands below out = calls_by requests_limit n f t s epoch client row act call known stands below out
 
-door_same : (n : ℕ) (f : FileNow) (t : FileTables) (s : ℕ) (door : Option Enter) (client : ℕ) (act : Action) (call : Call) (known : Known) → Stands n f t → IsIn n f s door
-    → IsTried n (at_door f s door client act call known) (door_to t s door client act call known)
+door_same : (n : ℕ) (f : FileNow) (t : FileTables) (s : ℕ) (door : Option Enter) (client : ℕ) (row : ClientRow) (act : Action) (call : Call) (known : Known) → Stands n f t → IsIn n f s door
+    → IsTried n (at_door f s door client row act call known) (door_to t s door client row act call known)
 unfolding at_door door_to
-door_same n f t s None client act call known stands inside = record { file = stands; known = refl; told = refl }
-door_same n f t s (Some (enter.Entered pass)) client act call known stands inside = calls_same n f t s pass.epoch client act call known stands inside.0 inside.1
-door_same n f t s (Some enter.Delay) client act call known stands inside = record { file = stands; known = refl; told = refl }
-door_same n f t s (Some (enter.Moved dest)) client act call known stands inside = record { file = stands; known = refl; told = refl }
-door_same n f t s (Some (enter.Full passes)) client act call known stands inside = record { file = stands; known = refl; told = refl }
-door_same n f t s (Some enter.Unknown) client act call known stands inside = record { file = stands; known = refl; told = refl }
+door_same n f t s None client row act call known stands inside = record { file = stands; known = refl; told = refl }
+door_same n f t s (Some (enter.Entered pass)) client row act call known stands inside = calls_same n f t s pass.epoch client row act call known stands inside.0 inside.1
+door_same n f t s (Some enter.Delay) client row act call known stands inside = record { file = stands; known = refl; told = refl }
+door_same n f t s (Some (enter.Moved dest)) client row act call known stands inside = record { file = stands; known = refl; told = refl }
+door_same n f t s (Some (enter.Full passes)) client row act call known stands inside = record { file = stands; known = refl; told = refl }
+door_same n f t s (Some enter.Unknown) client row act call known stands inside = record { file = stands; known = refl; told = refl }
 
 -- after the knocks
-knocked_same : (n fs client : ℕ) (act : Action) (call : Call) (known : Known) (knocked : Knocked) (to : KnockedTo) → IsKnocked n knocked to
-    → IsTried n (at_door knocked.file knocked.server knocked.door client act call (record known { places = sent_to client fs knocked.server known.places }))
-    (door_to to.file to.server to.door client act call (record known { places = sent_to client fs to.server known.places }))
-knocked_same n fs client act call known knocked to same =
-    subst (λ s. IsTried n (at_door knocked.file knocked.server knocked.door client act call (record known { places = sent_to client fs knocked.server known.places }))
-    (door_to to.file s to.door client act call (record known { places = sent_to client fs s known.places }))) (sym same.server)
-    (subst (λ door. IsTried n (at_door knocked.file knocked.server knocked.door client act call (record known { places = sent_to client fs knocked.server known.places }))
-    (door_to to.file knocked.server door client act call (record known { places = sent_to client fs knocked.server known.places }))) (sym same.door)
-    (door_same n knocked.file to.file knocked.server knocked.door client act call (record known { places = sent_to client fs knocked.server known.places }) same.file same.inside))
+knocked_same : (n fs client : ℕ) (row : ClientRow) (act : Action) (call : Call) (known : Known) (knocked : Knocked) (to : KnockedTo) → IsKnocked n knocked to
+    → IsTried n (at_door knocked.file knocked.server knocked.door client row act call (record known { places = sent_to client fs knocked.server known.places }))
+    (door_to to.file to.server to.door client row act call (record known { places = sent_to client fs to.server known.places }))
+knocked_same n fs client row act call known knocked to same =
+    subst (λ s. IsTried n (at_door knocked.file knocked.server knocked.door client row act call (record known { places = sent_to client fs knocked.server known.places }))
+    (door_to to.file s to.door client row act call (record known { places = sent_to client fs s known.places }))) (sym same.server)
+    (subst (λ door. IsTried n (at_door knocked.file knocked.server knocked.door client row act call (record known { places = sent_to client fs knocked.server known.places }))
+    (door_to to.file knocked.server door client row act call (record known { places = sent_to client fs knocked.server known.places }))) (sym same.door)
+    (door_same n knocked.file to.file knocked.server knocked.door client row act call (record known { places = sent_to client fs knocked.server known.places }) same.file same.inside))
 
 -- so many knocks, from where the client believes it to be
-tries_by : (k n : ℕ) (f : FileNow) (t : FileTables) (fs first client : ℕ) (act : Action) (call : Call) (known : Known) → Stands n f t
+tries_by : (k n : ℕ) (f : FileNow) (t : FileTables) (fs first client : ℕ) (row : ClientRow) (act : Action) (call : Call) (known : Known) → Stands n f t
     → IsTried n (at_door (knocks k f (place_of client fs first known.places)).file (knocks k f (place_of client fs first known.places)).server
-    (knocks k f (place_of client fs first known.places)).door client act call
+    (knocks k f (place_of client fs first known.places)).door client row act call
     (record known { places = sent_to client fs (knocks k f (place_of client fs first known.places)).server known.places }))
     (door_to (knocks_to k t (place_of client fs first known.places)).file (knocks_to k t (place_of client fs first known.places)).server
-    (knocks_to k t (place_of client fs first known.places)).door client act call
+    (knocks_to k t (place_of client fs first known.places)).door client row act call
     (record known { places = sent_to client fs (knocks_to k t (place_of client fs first known.places)).server known.places }))
-tries_by k n f t fs first client act call known stands =
-    knocked_same n fs client act call known (knocks k f (place_of client fs first known.places)) (knocks_to k t (place_of client fs first known.places))
+tries_by k n f t fs first client row act call known stands =
+    knocked_same n fs client row act call known (knocks k f (place_of client fs first known.places)) (knocks_to k t (place_of client fs first known.places))
     (knocks_same k n f t (place_of client fs first known.places) stands)
 
-pub tries_same : (n : ℕ) (f : FileNow) (t : FileTables) (client : ℕ) (act : Action) (call : Call) (known : Known) → Stands n f t
-    → IsTried n (tries f client act call known) (tries_to t client act call known)
+pub tries_same : (n : ℕ) (f : FileNow) (t : FileTables) (client : ℕ) (row : ClientRow) (act : Action) (call : Call) (known : Known) → Stands n f t
+    → IsTried n (tries f client row act call known) (tries_to t client row act call known)
 unfolding tries tries_to
-tries_same n f t client act call known stands =
-    subst (λ fs. IsTried n (tries f client act call known)
+tries_same n f t client row act call known stands =
+    subst (λ fs. IsTried n (tries f client row act call known)
     (door_to (knocks_to requests_limit t (place_of client fs t.first known.places)).file (knocks_to requests_limit t (place_of client fs t.first known.places)).server
-    (knocks_to requests_limit t (place_of client fs t.first known.places)).door client act call
+    (knocks_to requests_limit t (place_of client fs t.first known.places)).door client row act call
     (record known { places = sent_to client fs (knocks_to requests_limit t (place_of client fs t.first known.places)).server known.places }))) (sym stands.fs)
-    (subst (λ first. IsTried n (tries f client act call known)
+    (subst (λ first. IsTried n (tries f client row act call known)
     (door_to (knocks_to requests_limit t (place_of client f.home.fs first known.places)).file (knocks_to requests_limit t (place_of client f.home.fs first known.places)).server
-    (knocks_to requests_limit t (place_of client f.home.fs first known.places)).door client act call
+    (knocks_to requests_limit t (place_of client f.home.fs first known.places)).door client row act call
     (record known { places = sent_to client f.home.fs (knocks_to requests_limit t (place_of client f.home.fs first known.places)).server known.places }))) (sym stands.first)
-    (tries_by requests_limit n f t f.home.fs f.home.first client act call known stands))
+    (tries_by requests_limit n f t f.home.fs f.home.first client row act call known stands))

@@ -126,17 +126,17 @@ ask_home : (further : FileNow → Call → Known → List (List ℕ) → Asked) 
 ask_home further f knows reply listed None same = refl
 ask_home further f knows reply listed (Some more) same = same more
 
-asks_home : (k : ℕ) (f : FileNow) (s epoch client : ℕ) (act : Action) (call : Call) (known : Known) (names : List (List ℕ))
-    → (asks k f s epoch client act call known names).file.home ≡ f.home
+asks_home : (k : ℕ) (f : FileNow) (s epoch client : ℕ) (row : ClientRow) (act : Action) (call : Call) (known : Known) (names : List (List ℕ))
+    → (asks k f s epoch client row act call known names).file.home ≡ f.home
 unfolding asks
-asks_home zero f s epoch client act call known names = refl
-asks_home (suc k) f s epoch client act call known names =
+asks_home zero f s epoch client row act call known names = refl
+asks_home (suc k) f s epoch client row act call known names =
     let a : Answer = apply_answer (at_server f s) epoch call Pass in
     let reply : Reply = reply_of call a in
-    let knows : Known = learned client act call.deed reply known in
-    ask_home (λ g more its all. asks k g s epoch client act more its all) (did f s (Applying epoch call Pass a)) knows reply (names ++ names_of reply.value)
-    (goes_on_with call reply.value)
-    (λ more. asks_home k (did f s (Applying epoch call Pass a)) s epoch client act more knows (names ++ names_of reply.value))
+    let knows : Known = learned client act call reply known in
+    ask_home (λ g more its all. asks k g s epoch client row act more its all) (did f s (Applying epoch call Pass a)) knows reply (names ++ names_of reply.value)
+    (goes_on_with client row act call reply.value)
+    (λ more. asks_home k (did f s (Applying epoch call Pass a)) s epoch client row act more knows (names ++ names_of reply.value))
 
 asked_home : (f : FileNow) (client : ℕ) (act : Action) (known : Known) (names : List (List ℕ)) (reply : Option Reply)
     → (after_asking f client act known names reply).file.home ≡ f.home
@@ -144,36 +144,36 @@ unfolding after_asking
 asked_home f client act known names None = refl
 asked_home f client act known names (Some reply) = refl
 
-calls_home : (f : FileNow) (s epoch client : ℕ) (act : Action) (call : Call) (known : Known) → (calls_at f s epoch client act call known).file.home ≡ f.home
+calls_home : (f : FileNow) (s epoch client : ℕ) (row : ClientRow) (act : Action) (call : Call) (known : Known) → (calls_at f s epoch client row act call known).file.home ≡ f.home
 unfolding calls_at
-calls_home f s epoch client act call known = by_asks requests_limit
+calls_home f s epoch client row act call known = by_asks requests_limit
   where
     by_asks : (k : ℕ)
-        → (after_asking (did (asks k f s epoch client act call known []).file s (Leaving epoch)) client act (asks k f s epoch client act call known []).known
-        (asks k f s epoch client act call known []).names (asks k f s epoch client act call known []).reply).file.home ≡ f.home
+        → (after_asking (did (asks k f s epoch client row act call known []).file s (Leaving epoch)) client act (asks k f s epoch client row act call known []).known
+        (asks k f s epoch client row act call known []).names (asks k f s epoch client row act call known []).reply).file.home ≡ f.home
     by_asks k =
-        asked_home (did (asks k f s epoch client act call known []).file s (Leaving epoch)) client act (asks k f s epoch client act call known []).known
-        (asks k f s epoch client act call known []).names (asks k f s epoch client act call known []).reply
-        ∙ asks_home k f s epoch client act call known []
+        asked_home (did (asks k f s epoch client row act call known []).file s (Leaving epoch)) client act (asks k f s epoch client row act call known []).known
+        (asks k f s epoch client row act call known []).names (asks k f s epoch client row act call known []).reply
+        ∙ asks_home k f s epoch client row act call known []
 
-door_home : (f : FileNow) (s : ℕ) (door : Option Enter) (client : ℕ) (act : Action) (call : Call) (known : Known) → (at_door f s door client act call known).file.home ≡ f.home
+door_home : (f : FileNow) (s : ℕ) (door : Option Enter) (client : ℕ) (row : ClientRow) (act : Action) (call : Call) (known : Known) → (at_door f s door client row act call known).file.home ≡ f.home
 unfolding at_door
-door_home f s None client act call known = refl
-door_home f s (Some (enter.Entered pass)) client act call known = calls_home f s pass.epoch client act call known
-door_home f s (Some enter.Delay) client act call known = refl
-door_home f s (Some (enter.Moved dest)) client act call known = refl
-door_home f s (Some (enter.Full passes)) client act call known = refl
-door_home f s (Some enter.Unknown) client act call known = refl
+door_home f s None client row act call known = refl
+door_home f s (Some (enter.Entered pass)) client row act call known = calls_home f s pass.epoch client row act call known
+door_home f s (Some enter.Delay) client row act call known = refl
+door_home f s (Some (enter.Moved dest)) client row act call known = refl
+door_home f s (Some (enter.Full passes)) client row act call known = refl
+door_home f s (Some enter.Unknown) client row act call known = refl
 
-tries_home : (f : FileNow) (client : ℕ) (act : Action) (call : Call) (known : Known) → (tries f client act call known).file.home ≡ f.home
+tries_home : (f : FileNow) (client : ℕ) (row : ClientRow) (act : Action) (call : Call) (known : Known) → (tries f client row act call known).file.home ≡ f.home
 unfolding tries
-tries_home f client act call known = by_knocks requests_limit
+tries_home f client row act call known = by_knocks requests_limit
   where
     by_knocks : (k : ℕ) → (at_door (knocks k f (place_of client f.home.fs f.home.first known.places)).file (knocks k f (place_of client f.home.fs f.home.first known.places)).server
-        (knocks k f (place_of client f.home.fs f.home.first known.places)).door client act call
+        (knocks k f (place_of client f.home.fs f.home.first known.places)).door client row act call
         (record known { places = sent_to client f.home.fs (knocks k f (place_of client f.home.fs f.home.first known.places)).server known.places })).file.home ≡ f.home
     by_knocks k = door_home (knocks k f (place_of client f.home.fs f.home.first known.places)).file (knocks k f (place_of client f.home.fs f.home.first known.places)).server
-        (knocks k f (place_of client f.home.fs f.home.first known.places)).door client act call
+        (knocks k f (place_of client f.home.fs f.home.first known.places)).door client row act call
         (record known { places = sent_to client f.home.fs (knocks k f (place_of client f.home.fs f.home.first known.places)).server known.places })
         ∙ knocks_home k f (place_of client f.home.fs f.home.first known.places)
 
@@ -196,7 +196,7 @@ unfolding ran_call
 call_homes r client row act None f at = refl
 call_homes r client row act (Some call) None at = refl
 call_homes r client row act (Some call) (Some f) at =
-    homes_set r.files (fs_of act) f (tries f client act call r.known).file at (tries_home f client act call r.known)
+    homes_set r.files (fs_of act) f (tries f client row act call r.known).file at (tries_home f client row act call r.known)
 
 acts_homes : (r : RunNow) (client : ℕ) (row : ClientRow) (act : Action) → homes (acts r client row act).run ≡ homes r
 unfolding acts

@@ -68,14 +68,14 @@ tried_same n r t client row act (Some call) None (Some u) run both = absurd both
 tried_same n r t client row act (Some call) (Some f) None run both = absurd both
 tried_same n r t client row act (Some call) (Some f) (Some u) run both =
     subst (λ known. IsRan n (ran_call r client row act (Some call) (Some f)) (record {
-      rows = outcome row act (tries_to u client act call known).told ∷ [];
-      next = record { files = slice_set t.files (fs_of act) (tries_to u client act call known).file; known = (tries_to u client act call known).known };
+      rows = outcome row act (tries_to u client row act call known).told ∷ [];
+      next = record { files = slice_set t.files (fs_of act) (tries_to u client row act call known).file; known = (tries_to u client row act call known).known };
     })) (sym run.known)
-    (let same : IsTried n (tries f client act call r.known) (tries_to u client act call r.known) = tries_same n f u client act call r.known both in
+    (let same : IsTried n (tries f client row act call r.known) (tries_to u client row act call r.known) = tries_same n f u client row act call r.known both in
     record {
       rows = ap (λ what. outcome row act what ∷ []) same.told;
       next = record {
-        files = stands_set n (fs_of act) r.files t.files (tries f client act call r.known).file (tries_to u client act call r.known).file run.files same.file;
+        files = stands_set n (fs_of act) r.files t.files (tries f client row act call r.known).file (tries_to u client row act call r.known).file run.files same.file;
         known = same.known;
       };
     })

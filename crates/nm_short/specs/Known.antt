@@ -1,20 +1,28 @@
 -- What the clients of a script know, and what they send.
-use Rattle.std.specs.Prelude.{ℕ, ◌==◌, ◌&&◌, not, Bool, List, [], ◌∷◌, ◌++◌, map, Option, Some, None, find, filter, option_map, unwrap_or, codes, if◌then◌else◌}
+use Rattle.std.specs.Prelude.{ℕ, ◌==◌, ◌&&◌, not, Bool, false, List, [], ◌∷◌, ◌++◌, map, Option, Some, None, find, filter, option_map, unwrap_or, codes, if◌then◌else◌}
 use Rattle.std.specs.Str.{bytes_eq}
 use Rattle.nm_rules.specs.Parties.{Party}
+use Rattle.nm_rules.specs.Past.{is_done}
 use Rattle.nm_rules.specs.Seqids.{advances}
 use Rattle.nm_rules.specs.Shares.{next_seqid}
 use Rattle.nm_rules.specs.declared.action.Action.{Action}
 use Rattle.nm_rules.specs.Wire.{hyper}
 use Rattle.nm_rules.specs.declared.action.Action.TheVariants as action
 use Rattle.nm_rules.specs.declared.action.CloseAction.{CloseAction}
+use Rattle.nm_rules.specs.declared.action.LockAction.{LockAction}
 use Rattle.nm_rules.specs.declared.action.OpenAction.{OpenAction}
 use Rattle.nm_rules.specs.declared.action.ReadAction.{ReadAction}
+use Rattle.nm_rules.specs.declared.action.ReleaseAction.{ReleaseAction}
 use Rattle.nm_rules.specs.declared.action.SizeAction.{SizeAction}
+use Rattle.nm_rules.specs.declared.action.UnlockAction.{UnlockAction}
 use Rattle.nm_rules.specs.declared.action.WriteAction.{WriteAction}
 use Rattle.nm_rules.specs.declared.args.Claim.TheVariants.{Null}
 use Rattle.nm_rules.specs.declared.args.CreateType.TheVariants.{Directory}
 use Rattle.nm_rules.specs.declared.args.Fattr.{Fattr}
+use Rattle.nm_rules.specs.declared.args.LockType.{LockType}
+use Rattle.nm_rules.specs.declared.args.LockType.TheVariants as lock_type
+use Rattle.nm_rules.specs.declared.args.Locker.{Locker}
+use Rattle.nm_rules.specs.declared.args.Locker.TheVariants as locker
 use Rattle.nm_rules.specs.declared.args.OpenType.{OpenType}
 use Rattle.nm_rules.specs.declared.args.OpenType.TheVariants.{NoCreate, Unchecked}
 use Rattle.nm_rules.specs.declared.args.Stable.TheVariants.{FileSync}
@@ -25,27 +33,34 @@ use Rattle.nm_rules.specs.declared.calls.StateId.{StateId}
 use Rattle.nm_rules.specs.declared.calls.StateRef.TheVariants.{Named}
 use Rattle.nm_rules.specs.declared.calls.Reply.{Reply}
 use Rattle.nm_rules.specs.declared.calls.ReplyValue.{ReplyValue}
-use Rattle.nm_rules.specs.declared.calls.ReplyValue.TheVariants.{Open as OpenReply, Close as CloseReply, OpenConfirm as ConfirmReply, OpenDowngrade as DowngradeReply}
+use Rattle.nm_rules.specs.declared.calls.ReplyValue.TheVariants.{Open as OpenReply, Close as CloseReply, OpenConfirm as ConfirmReply, OpenDowngrade as DowngradeReply, Lock as LockReply, Unlock as UnlockReply}
+use Rattle.nm_rules.specs.declared.results.LockKind.{LockKind}
+use Rattle.nm_rules.specs.declared.results.LockKind.TheVariants as kind
+use Rattle.nm_rules.specs.declared.results.LockOutcome.TheVariants.{Locked}
 use Rattle.nm_rules.specs.declared.results.Opened.{Opened}
 use Rattle.nm_rules.specs.declared.status.OpStatus.{OpStatus}
 use Rattle.nm_script.specs.declared.script.ClientRow.{ClientRow}
 use Rattle.nm_short.specs.declared.clients.Believed.{Believed}
-use Rattle.nm_short.specs.declared.clients.HeldOpen.{HeldOpen}
+use Rattle.nm_short.specs.declared.clients.Holding.{Holding}
 use Rattle.nm_short.specs.declared.clients.InHand.{InHand}
 use Rattle.nm_short.specs.declared.clients.OwnerSeqid.{OwnerSeqid}
 
 -- ---- what clients know
 
 pub record Known : Type 0 where
+  -- the next seqids of open owners, and those of lock owners
   pub seqids : List OwnerSeqid
-  pub held : List HeldOpen
+  pub lock_seqids : List OwnerSeqid
+  -- the stateids of opens, and those of lock owners
+  pub held : List Holding
+  pub locks : List Holding
   -- where a client believes a file system to be, where it was sent elsewhere than at first
   pub places : List Believed
   -- the actions that wait for a file system on its way
   pub in_hand : List InHand
 
 abbrev pub knows_nothing : Known
-knows_nothing = record { seqids = []; held = []; places = []; in_hand = [] }
+knows_nothing = record { seqids = []; lock_seqids = []; held = []; locks = []; places = []; in_hand = [] }
 
 abbrev pub is_seqid_of : ℕ → ℕ → List ℕ → OwnerSeqid → Bool
 is_seqid_of client fs owner row = (row.client == client) && (row.fs == fs) && bytes_eq row.owner owner
@@ -64,24 +79,28 @@ moved_on client fs owner status rows =
     then other_seqids client fs owner rows ++ record { client = client; fs = fs; owner = owner; next = next_seqid (seqid_of client fs owner rows) } ∷ []
     else rows
 
-abbrev pub is_held_of : ℕ → ℕ → List ℕ → List ℕ → HeldOpen → Bool
+abbrev pub is_held_of : ℕ → ℕ → List ℕ → List ℕ → Holding → Bool
 is_held_of client fs owner file row = (row.client == client) && (row.fs == fs) && bytes_eq row.owner owner && bytes_eq row.file file
 
--- what an owner of a client holds on a file
-unfoldable pub held_of : ℕ → ℕ → List ℕ → List ℕ → List HeldOpen → Option HeldOpen
+-- what an owner of a client holds on a file, among opens or among locks
+unfoldable pub held_of : ℕ → ℕ → List ℕ → List ℕ → List Holding → Option Holding
 held_of client fs owner file rows = find (is_held_of client fs owner file) rows
 
-abbrev pub others_held : ℕ → ℕ → List ℕ → List ℕ → List HeldOpen → List HeldOpen
+abbrev pub others_held : ℕ → ℕ → List ℕ → List ℕ → List Holding → List Holding
 others_held client fs owner file rows = filter (λ row. not (is_held_of client fs owner file row)) rows
 
--- An OK of OPEN tells the file's handle and the stateid; the client keeps them in the place of older ones.
-unfoldable pub holds_opened : ℕ → OpenAction → ReplyValue → List HeldOpen → List HeldOpen
-holds_opened client a (OpenReply (Some opened)) rows = others_held client a.fs a.owner a.file rows
-    ++ record { client = client; fs = a.fs; owner = a.owner; file = a.file; handle = opened.file; stateid = opened.ok.stateid } ∷ []
+-- The client keeps the file's handle and the stateid in the place of older ones.
+abbrev pub holds_now : ℕ → ℕ → List ℕ → List ℕ → ℕ → StateId → List Holding → List Holding
+holds_now client fs owner file handle id rows = others_held client fs owner file rows
+    ++ record { client = client; fs = fs; owner = owner; file = file; handle = handle; stateid = id } ∷ []
+
+-- An OK of OPEN tells the file's handle and the stateid.
+unfoldable pub holds_opened : ℕ → OpenAction → ReplyValue → List Holding → List Holding
+holds_opened client a (OpenReply (Some opened)) rows = holds_now client a.fs a.owner a.file opened.file opened.ok.stateid rows
 holds_opened client a _ rows = rows
 
--- With an OK of CLOSE the client holds it no longer.
-unfoldable pub holds_closed : ℕ → CloseAction → ReplyValue → List HeldOpen → List HeldOpen
+-- With an OK of CLOSE the client holds neither the open nor the locks any longer.
+unfoldable pub holds_closed : ℕ → CloseAction → ReplyValue → List Holding → List Holding
 holds_closed client a (CloseReply (Some id)) rows = others_held client a.fs a.owner a.file rows
 holds_closed client a _ rows = rows
 
@@ -92,10 +111,10 @@ told_stateid (DowngradeReply stateid) = stateid
 told_stateid _ = None
 
 -- what the owner holds on the file has that stateid then
-abbrev pub renewed_held : ℕ → OpenAction → StateId → HeldOpen → HeldOpen
+abbrev pub renewed_held : ℕ → OpenAction → StateId → Holding → Holding
 renewed_held client a id row = if is_held_of client a.fs a.owner a.file row then record row { stateid = id } else row
 
-abbrev pub holds_told : ℕ → OpenAction → Option StateId → List HeldOpen → List HeldOpen
+abbrev pub holds_told : ℕ → OpenAction → Option StateId → List Holding → List Holding
 holds_told client a None rows = rows
 holds_told client a (Some id) rows = map (renewed_held client a id) rows
 
@@ -109,7 +128,47 @@ learned_anew client a reply known =
 
 abbrev pub learned_close : ℕ → CloseAction → Reply → Known → Known
 learned_close client a reply known =
-    record known { seqids = moved_on client a.fs a.owner reply.status known.seqids; held = holds_closed client a reply.value known.held }
+    record known {
+      seqids = moved_on client a.fs a.owner reply.status known.seqids;
+      held = holds_closed client a reply.value known.held;
+      locks = holds_closed client a reply.value known.locks;
+    }
+
+-- An OK of LOCK and of LOCKU tells the stateid of a lock owner anew.
+unfoldable pub told_lock : ReplyValue → Option StateId
+told_lock (LockReply (Some (Locked id))) = Some id
+told_lock (UnlockReply stateid) = stateid
+told_lock _ = None
+
+abbrev pub holds_lock : ℕ → ℕ → List ℕ → List ℕ → ℕ → Option StateId → List Holding → List Holding
+holds_lock client fs owner file handle None rows = rows
+holds_lock client fs owner file handle (Some id) rows = holds_now client fs owner file handle id rows
+
+-- A new lock owner starts with OK alone.
+abbrev pub started_on : ℕ → ℕ → List ℕ → OpStatus → List OwnerSeqid → List OwnerSeqid
+started_on client fs owner status rows = if is_done status then moved_on client fs owner status rows else rows
+
+-- A new lock owner's LOCK takes a seqid of its open owner, another one's a seqid of its own.
+unfoldable pub learned_by : ℕ → LockAction → ℕ → Locker → Reply → Known → Known
+learned_by client a handle (locker.New open_seqid stateid lock_seqid owner) reply known = record known {
+  seqids = moved_on client a.fs a.owner reply.status known.seqids;
+  lock_seqids = started_on client a.fs a.owner reply.status known.lock_seqids;
+  locks = holds_lock client a.fs a.owner a.file handle (told_lock reply.value) known.locks;
+}
+learned_by client a handle (locker.Known stateid lock_seqid) reply known = record known {
+  lock_seqids = moved_on client a.fs a.owner reply.status known.lock_seqids;
+  locks = holds_lock client a.fs a.owner a.file handle (told_lock reply.value) known.locks;
+}
+
+unfoldable pub learned_lock : ℕ → LockAction → ℕ → Deed → Reply → Known → Known
+learned_lock client a handle (deed.Lock args) reply known = learned_by client a handle args.locker reply known
+learned_lock client a handle _ reply known = known
+
+abbrev pub learned_unlock : ℕ → UnlockAction → ℕ → Reply → Known → Known
+learned_unlock client a handle reply known = record known {
+  lock_seqids = moved_on client a.fs a.owner reply.status known.lock_seqids;
+  locks = holds_lock client a.fs a.owner a.file handle (told_lock reply.value) known.locks;
+}
 
 -- after a reply to an open or a create, which make an OPEN and then maybe an OPEN_CONFIRM
 unfoldable pub learned_opening : ℕ → OpenAction → Deed → Reply → Known → Known
@@ -117,13 +176,15 @@ learned_opening client a (deed.Open _) reply known = learned_open client a reply
 learned_opening client a (deed.OpenConfirm _) reply known = learned_anew client a reply known
 learned_opening client a _ reply known = known
 
--- What a client knows after the reply to an operation that it made for an action. Of names and of bytes it keeps nothing.
-unfoldable pub learned : ℕ → Action → Deed → Reply → Known → Known
-learned client (action.Open a) d reply known = learned_opening client a d reply known
-learned client (action.Create a) d reply known = learned_opening client a d reply known
-learned client (action.Close a) d reply known = learned_close client a reply known
-learned client (action.Downgrade a) d reply known = learned_anew client a reply known
-learned client _ d reply known = known
+-- What a client knows after the reply to a call that it made for an action. Of names and of bytes it keeps nothing.
+unfoldable pub learned : ℕ → Action → Call → Reply → Known → Known
+learned client (action.Open a) call reply known = learned_opening client a call.deed reply known
+learned client (action.Create a) call reply known = learned_opening client a call.deed reply known
+learned client (action.Close a) call reply known = learned_close client a reply known
+learned client (action.Downgrade a) call reply known = learned_anew client a reply known
+learned client (action.Lock a) call reply known = learned_lock client a call.file call.deed reply known
+learned client (action.Unlock a) call reply known = learned_unlock client a call.file reply known
+learned client _ call reply known = known
 
 -- ---- where clients believe a file system to be
 
@@ -184,7 +245,7 @@ open_call client row a opentype seqid = record {
 }
 
 -- CLOSE of what the client holds
-unfoldable pub close_call : ℕ → ClientRow → HeldOpen → ℕ → Call
+unfoldable pub close_call : ℕ → ClientRow → Holding → ℕ → Call
 close_call client row held seqid = record {
   caller = Some (party_of client row);
   file = held.handle;
@@ -200,29 +261,89 @@ confirm_call caller opened seqid = record {
 }
 
 -- OPEN_DOWNGRADE of what the client holds
-unfoldable pub downgrade_call : ℕ → ClientRow → OpenAction → HeldOpen → ℕ → Call
+unfoldable pub downgrade_call : ℕ → ClientRow → OpenAction → Holding → ℕ → Call
 downgrade_call client row a held seqid = record {
   caller = Some (party_of client row);
   file = held.handle;
   deed = deed.OpenDowngrade (record { stateid = Named held.stateid; seqid = seqid; access = a.access; deny = a.deny });
 }
 
+-- ---- LOCK, LOCKU, LOCKT and RELEASE_LOCKOWNER
+
+-- the next seqids of an owner's two streams
+abbrev pub open_seqid_of : ℕ → LockAction → Known → ℕ
+open_seqid_of client a known = seqid_of client a.fs a.owner known.seqids
+
+abbrev pub lock_seqid_of : ℕ → LockAction → Known → ℕ
+lock_seqid_of client a known = seqid_of client a.fs a.owner known.lock_seqids
+
+-- An owner is new on a file until it has a lock stateid there.
+unfoldable pub locker_for : ℕ → ClientRow → LockAction → Known → Holding → Option Holding → Locker
+locker_for client row a known held None =
+    locker.New (open_seqid_of client a known) (Named held.stateid) (lock_seqid_of client a known) (owner_text row a.owner)
+locker_for client row a known held (Some lock) = locker.Known (Named lock.stateid) (lock_seqid_of client a known)
+
+unfoldable pub type_of : LockKind → LockType
+type_of kind.Read = lock_type.Read
+type_of kind.Write = lock_type.Write
+
+unfoldable pub lock_call : ℕ → ClientRow → LockAction → ℕ → Locker → Call
+lock_call client row a file its = record {
+  caller = Some (party_of client row);
+  file = file;
+  deed = deed.Lock (record { kind = type_of a.kind; reclaim = false; offset = a.offset; length = a.length; locker = its });
+}
+
+-- LOCK with the open that the client holds
+unfoldable pub locking_call : ℕ → ClientRow → LockAction → Known → Holding → Call
+locking_call client row a known held =
+    lock_call client row a held.handle (locker_for client row a known held (held_of client a.fs a.owner a.file known.locks))
+
+-- LOCKU of what the client holds, with type 1
+unfoldable pub unlock_call : ℕ → ClientRow → UnlockAction → ℕ → Holding → Call
+unlock_call client row a seqid lock = record {
+  caller = Some (party_of client row);
+  file = lock.handle;
+  deed = deed.Unlock (record { kind = lock_type.Read; seqid = seqid; stateid = Named lock.stateid; offset = a.offset; length = a.length });
+}
+
+-- LOOKUP in the root names no client, and LOCKT on the file that it tells goes on with it.
+unfoldable pub lookup_call : List ℕ → Call
+lookup_call name = record { caller = None; file = 1; deed = deed.Lookup (record { name = name }) }
+
+unfoldable pub test_call : ℕ → ClientRow → LockAction → ℕ → Call
+test_call client row a file = record {
+  caller = Some (party_of client row);
+  file = file;
+  deed = deed.LockTest (record { kind = type_of a.kind; offset = a.offset; length = a.length; owner = owner_text row a.owner });
+}
+
+-- RELEASE_LOCKOWNER names no file.
+unfoldable pub release_call : ℕ → ClientRow → ReleaseAction → Call
+release_call client row a = record {
+  caller = Some (party_of client row);
+  file = 0;
+  deed = deed.ReleaseLockOwner (record { owner = owner_text row a.owner });
+}
+
+-- ---- bytes and names
+
 -- READ, WRITE and SETATTR of size, with the stateid of what the client holds
-unfoldable pub read_call : ℕ → ClientRow → ReadAction → HeldOpen → Call
+unfoldable pub read_call : ℕ → ClientRow → ReadAction → Holding → Call
 read_call client row a held = record {
   caller = Some (party_of client row);
   file = held.handle;
   deed = deed.Read (record { stateid = Named held.stateid; offset = a.offset; count = a.count });
 }
 
-unfoldable pub write_call : ℕ → ClientRow → WriteAction → HeldOpen → Call
+unfoldable pub write_call : ℕ → ClientRow → WriteAction → Holding → Call
 write_call client row a held = record {
   caller = Some (party_of client row);
   file = held.handle;
   deed = deed.Write (record { stateid = Named held.stateid; offset = a.offset; stable = FileSync; «data» = a.«data» });
 }
 
-unfoldable pub size_call : ℕ → ClientRow → SizeAction → HeldOpen → Call
+unfoldable pub size_call : ℕ → ClientRow → SizeAction → Holding → Call
 size_call client row a held = record {
   caller = Some (party_of client row);
   file = held.handle;
@@ -248,8 +369,8 @@ list_call cookie = record {
   deed = deed.ReadDir (record { cookie = cookie; verifier = 0; dircount = 0; maxcount = 65536; words = [] });
 }
 
--- The call of an action. CLOSE, OPEN_DOWNGRADE and what reads or changes a file's bytes need a stateid; without one nothing is
--- sent.
+-- The call of an action. CLOSE, OPEN_DOWNGRADE, LOCK, LOCKU and what reads or changes a file's bytes need a stateid; without one
+-- nothing is sent.
 unfoldable pub call_of : ℕ → ClientRow → Known → Action → Option Call
 call_of client row known (action.Open a) = Some (open_call client row a NoCreate (seqid_of client a.fs a.owner known.seqids))
 call_of client row known (action.Create a) =
@@ -258,6 +379,11 @@ call_of client row known (action.Close a) =
     option_map (λ held. close_call client row held (seqid_of client a.fs a.owner known.seqids)) (held_of client a.fs a.owner a.file known.held)
 call_of client row known (action.Downgrade a) =
     option_map (λ held. downgrade_call client row a held (seqid_of client a.fs a.owner known.seqids)) (held_of client a.fs a.owner a.file known.held)
+call_of client row known (action.Lock a) = option_map (locking_call client row a known) (held_of client a.fs a.owner a.file known.held)
+call_of client row known (action.Unlock a) =
+    option_map (unlock_call client row a (seqid_of client a.fs a.owner known.lock_seqids)) (held_of client a.fs a.owner a.file known.locks)
+call_of client row known (action.Test a) = Some (lookup_call a.file)
+call_of client row known (action.Release a) = Some (release_call client row a)
 call_of client row known (action.Read a) = option_map (read_call client row a) (held_of client a.fs a.owner a.file known.held)
 call_of client row known (action.Write a) = option_map (write_call client row a) (held_of client a.fs a.owner a.file known.held)
 call_of client row known (action.Size a) = option_map (size_call client row a) (held_of client a.fs a.owner a.file known.held)

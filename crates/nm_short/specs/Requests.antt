@@ -15,6 +15,7 @@ use Rattle.nm_rules.specs.declared.calls.Reply.{Reply}
 use Rattle.nm_rules.specs.declared.calls.ReplyValue.{ReplyValue}
 use Rattle.nm_rules.specs.declared.calls.ReplyValue.TheVariants as value
 use Rattle.nm_rules.specs.declared.results.DirEntry.{DirEntry}
+use Rattle.nm_rules.specs.declared.results.LockOutcome.TheVariants.{Denied as IsDenied}
 use Rattle.nm_rules.specs.declared.results.Opened.{Opened}
 use Rattle.nm_rules.specs.declared.results.ReadDirOk.{ReadDirOk}
 use Rattle.nm_rules.specs.declared.status.OpStatus.{OpStatus}
@@ -23,7 +24,8 @@ use Rattle.nm_script.specs.declared.report.Told.{Told}
 use Rattle.nm_script.specs.declared.report.Told.TheVariants as told
 use Rattle.nm_slot.specs.declared.answers.Answer.{Answer}
 use Rattle.nm_slot.specs.declared.answers.Answer.TheVariants as answer
-use Rattle.nm_short.specs.Known.{confirm_call, list_call}
+use Rattle.nm_script.specs.declared.script.ClientRow.{ClientRow}
+use Rattle.nm_short.specs.Known.{confirm_call, list_call, test_call}
 
 -- the requests of one line
 abbrev pub requests_limit : ℕ
@@ -49,14 +51,28 @@ abbrev pub confirms : Option Party → OpenArgs → Opened → Option Call
 confirms caller args opened =
     if not (bit_and opened.ok.rflags 2 == 0) then Some (confirm_call caller opened (next_seqid args.seqid)) else None
 
--- what goes on with an operation of that caller
-unfoldable pub goes_on_by : Option Party → Deed → ReplyValue → Option Call
-goes_on_by caller (deed.ReadDir args) (value.ReadDir (Some ok)) = more_of args ok
-goes_on_by caller (deed.Open args) (value.Open (Some opened)) = confirms caller args opened
-goes_on_by caller _ _ = None
+-- With the file that a LOOKUP tells goes on what asked for it.
+unfoldable pub tests : ℕ → ClientRow → Action → ReplyValue → Option Call
+tests client row (action.Test a) (value.Lookup (Some file)) = Some (test_call client row a file)
+tests client row _ _ = None
 
-abbrev pub goes_on_with : Call → ReplyValue → Option Call
-goes_on_with call its_value = goes_on_by call.caller call.deed its_value
+unfoldable pub listing_goes_on : ReadDirArgs → ReplyValue → Option Call
+listing_goes_on args (value.ReadDir (Some ok)) = more_of args ok
+listing_goes_on args _ = None
+
+unfoldable pub opening_goes_on : Option Party → OpenArgs → ReplyValue → Option Call
+opening_goes_on caller args (value.Open (Some opened)) = confirms caller args opened
+opening_goes_on caller args _ = None
+
+-- what goes on with an operation of that caller
+unfoldable pub goes_on_by : ℕ → ClientRow → Action → Option Party → Deed → ReplyValue → Option Call
+goes_on_by client row act caller (deed.ReadDir args) its_value = listing_goes_on args its_value
+goes_on_by client row act caller (deed.Open args) its_value = opening_goes_on caller args its_value
+goes_on_by client row act caller (deed.Lookup _) its_value = tests client row act its_value
+goes_on_by client row act caller _ its_value = None
+
+abbrev pub goes_on_with : ℕ → ClientRow → Action → Call → ReplyValue → Option Call
+goes_on_with client row act call its_value = goes_on_by client row act call.caller call.deed its_value
 
 -- the names that a reply lists
 unfoldable pub names_of : ReplyValue → List (List ℕ)
@@ -70,8 +86,15 @@ told_ok (value.Read (Some ok)) names = told.Read ok
 told_ok (value.ReadDir (Some _)) names = told.Listed names
 told_ok _ names = told.Answered status.Nfs4Ok
 
+-- and of another status: what is in the way of a lock, and that of a LOOKUP, which decides nothing itself
+unfoldable pub told_refused : OpStatus → ReplyValue → Told
+told_refused status (value.Lock (Some (IsDenied denied))) = told.Denied denied
+told_refused status (value.LockTest (Some denied)) = told.Denied denied
+told_refused status (value.Lookup _) = told.Refused status
+told_refused status _ = told.Answered status
+
 unfoldable pub told_by : Reply → List (List ℕ) → Told
-told_by reply names = if is_done reply.status then told_ok reply.value names else told.Answered reply.status
+told_by reply names = if is_done reply.status then told_ok reply.value names else told_refused reply.status reply.value
 
 -- A file system that the server doesn't know: where a client looks it up by name it isn't there, and what it has a handle of
 -- is stale.
@@ -80,6 +103,10 @@ unknown_status (action.Open _) = status.NoEnt
 unknown_status (action.Create _) = status.NoEnt
 unknown_status (action.Close _) = status.Stale
 unknown_status (action.Downgrade _) = status.Stale
+unknown_status (action.Lock _) = status.Stale
+unknown_status (action.Unlock _) = status.Stale
+unknown_status (action.Test _) = status.NoEnt
+unknown_status (action.Release _) = status.NoEnt
 unknown_status (action.Read _) = status.Stale
 unknown_status (action.Write _) = status.Stale
 unknown_status (action.Size _) = status.Stale

@@ -218,17 +218,17 @@ pub record Asked : Type 0 where
   pub reply : Option Reply
   pub names : List (List ℕ)
 
-unfoldable pub asks : ℕ → FileNow → ℕ → ℕ → ℕ → Action → Call → Known → List (List ℕ) → Asked
-asks zero f s epoch client act call known names = record { file = f; known = known; reply = None; names = names }
-asks (suc n) f s epoch client act call known names =
+unfoldable pub asks : ℕ → FileNow → ℕ → ℕ → ℕ → ClientRow → Action → Call → Known → List (List ℕ) → Asked
+asks zero f s epoch client row act call known names = record { file = f; known = known; reply = None; names = names }
+asks (suc n) f s epoch client row act call known names =
     let a = apply_answer (at_server f s) epoch call Pass in
     let reply = reply_of call a in
     let now = did f s (Applying epoch call Pass a) in
-    let knows = learned client act call.deed reply known in
+    let knows = learned client act call reply known in
     let listed = names ++ names_of reply.value in
-    elim (goes_on_with call reply.value) [
+    elim (goes_on_with client row act call reply.value) [
       | None ↦ record { file = now; known = knows; reply = Some reply; names = listed }
-      | Some next ↦ asks n now s epoch client act next knows listed
+      | Some next ↦ asks n now s epoch client row act next knows listed
     ]
 
 abbrev pub stays_in_hand : FileNow → ℕ → Action → Known → Told → Tried
@@ -244,28 +244,28 @@ after_asking f client act known names (Some reply) = record {
 }
 
 -- with the pass the calls are made, and the pass comes back
-unfoldable pub calls_at : FileNow → ℕ → ℕ → ℕ → Action → Call → Known → Tried
-calls_at f s epoch client act call known =
-    let asked = asks requests_limit f s epoch client act call known [] in
+unfoldable pub calls_at : FileNow → ℕ → ℕ → ℕ → ClientRow → Action → Call → Known → Tried
+calls_at f s epoch client row act call known =
+    let asked = asks requests_limit f s epoch client row act call known [] in
     after_asking (did asked.file s (Leaving epoch)) client act asked.known asked.names asked.reply
 
 abbrev pub is_refused : FileNow → ℕ → Known → OpStatus → Tried
 is_refused f client known why = record { file = f; known = record known { in_hand = put_down client known.in_hand }; told = told.Refused why }
 
 -- what the door answered
-unfoldable pub at_door : FileNow → ℕ → Option Enter → ℕ → Action → Call → Known → Tried
-at_door f s None client act call known = stays_in_hand f client act known told.Stopped
-at_door f s (Some (enter.Entered pass)) client act call known = calls_at f s pass.epoch client act call known
-at_door f s (Some enter.Delay) client act call known = stays_in_hand f client act known told.Delayed
-at_door f s (Some (enter.Moved dest)) client act call known = stays_in_hand f client act known told.Stopped
-at_door f s (Some (enter.Full passes)) client act call known = is_refused f client known status.Resource
-at_door f s (Some enter.Unknown) client act call known = is_refused f client known (unknown_status act)
+unfoldable pub at_door : FileNow → ℕ → Option Enter → ℕ → ClientRow → Action → Call → Known → Tried
+at_door f s None client row act call known = stays_in_hand f client act known told.Stopped
+at_door f s (Some (enter.Entered pass)) client row act call known = calls_at f s pass.epoch client row act call known
+at_door f s (Some enter.Delay) client row act call known = stays_in_hand f client act known told.Delayed
+at_door f s (Some (enter.Moved dest)) client row act call known = stays_in_hand f client act known told.Stopped
+at_door f s (Some (enter.Full passes)) client row act call known = is_refused f client known status.Resource
+at_door f s (Some enter.Unknown) client row act call known = is_refused f client known (unknown_status act)
 
 -- The client believes the file system to be where it knocked last.
-unfoldable pub tries : FileNow → ℕ → Action → Call → Known → Tried
-tries f client act call known =
+unfoldable pub tries : FileNow → ℕ → ClientRow → Action → Call → Known → Tried
+tries f client row act call known =
     let knocked = knocks requests_limit f (place_of client f.home.fs f.home.first known.places) in
-    at_door knocked.file knocked.server knocked.door client act call
+    at_door knocked.file knocked.server knocked.door client row act call
     (record known { places = sent_to client f.home.fs knocked.server known.places })
 
 -- ---- the run
@@ -296,7 +296,7 @@ ran_tried r row act t = record {
 unfoldable pub ran_call : RunNow → ℕ → ClientRow → Action → Option Call → Option FileNow → Ran
 ran_call r client row act None f = record { rows = outcome row act told.NoState ∷ []; run = r }
 ran_call r client row act (Some call) None = nothing_said r
-ran_call r client row act (Some call) (Some f) = ran_tried r row act (tries f client act call r.known)
+ran_call r client row act (Some call) (Some f) = ran_tried r row act (tries f client row act call r.known)
 
 unfoldable pub acts : RunNow → ℕ → ClientRow → Action → Ran
 acts r client row act = ran_call r client row act (call_of client row r.known act) (slice_get r.files (fs_of act))

@@ -223,17 +223,17 @@ pub record AskedTo : Type 0 where
   pub reply : Option Reply
   pub names : List (List ℕ)
 
-unfoldable pub asks_to : ℕ → FileTables → ℕ → ℕ → ℕ → Action → Call → Known → List (List ℕ) → AskedTo
-asks_to zero f s epoch client act call known names = record { file = f; known = known; reply = None; names = names }
-asks_to (suc n) f s epoch client act call known names =
+unfoldable pub asks_to : ℕ → FileTables → ℕ → ℕ → ℕ → ClientRow → Action → Call → Known → List (List ℕ) → AskedTo
+asks_to zero f s epoch client row act call known names = record { file = f; known = known; reply = None; names = names }
+asks_to (suc n) f s epoch client row act call known names =
     let a = apply_answer (slot_in f s) epoch call Pass in
     let reply = reply_of call a in
     let now = stepped f s (Applying epoch call Pass a) in
-    let knows = learned client act call.deed reply known in
+    let knows = learned client act call reply known in
     let listed = names ++ names_of reply.value in
-    elim (goes_on_with call reply.value) [
+    elim (goes_on_with client row act call reply.value) [
       | None ↦ record { file = now; known = knows; reply = Some reply; names = listed }
-      | Some next ↦ asks_to n now s epoch client act next knows listed
+      | Some next ↦ asks_to n now s epoch client row act next knows listed
     ]
 
 abbrev pub waits_to : FileTables → ℕ → Action → Known → Told → TriedTo
@@ -248,26 +248,26 @@ asked_to f client act known names (Some reply) = record {
   told = told_by reply names;
 }
 
-unfoldable pub calls_to : FileTables → ℕ → ℕ → ℕ → Action → Call → Known → TriedTo
-calls_to f s epoch client act call known =
-    let asked = asks_to requests_limit f s epoch client act call known [] in
+unfoldable pub calls_to : FileTables → ℕ → ℕ → ℕ → ClientRow → Action → Call → Known → TriedTo
+calls_to f s epoch client row act call known =
+    let asked = asks_to requests_limit f s epoch client row act call known [] in
     asked_to (stepped asked.file s (Leaving epoch)) client act asked.known asked.names asked.reply
 
 abbrev pub refused_to : FileTables → ℕ → Known → OpStatus → TriedTo
 refused_to f client known why = record { file = f; known = record known { in_hand = put_down client known.in_hand }; told = told.Refused why }
 
-unfoldable pub door_to : FileTables → ℕ → Option Enter → ℕ → Action → Call → Known → TriedTo
-door_to f s None client act call known = waits_to f client act known told.Stopped
-door_to f s (Some (enter.Entered pass)) client act call known = calls_to f s pass.epoch client act call known
-door_to f s (Some enter.Delay) client act call known = waits_to f client act known told.Delayed
-door_to f s (Some (enter.Moved dest)) client act call known = waits_to f client act known told.Stopped
-door_to f s (Some (enter.Full passes)) client act call known = refused_to f client known status.Resource
-door_to f s (Some enter.Unknown) client act call known = refused_to f client known (unknown_status act)
+unfoldable pub door_to : FileTables → ℕ → Option Enter → ℕ → ClientRow → Action → Call → Known → TriedTo
+door_to f s None client row act call known = waits_to f client act known told.Stopped
+door_to f s (Some (enter.Entered pass)) client row act call known = calls_to f s pass.epoch client row act call known
+door_to f s (Some enter.Delay) client row act call known = waits_to f client act known told.Delayed
+door_to f s (Some (enter.Moved dest)) client row act call known = waits_to f client act known told.Stopped
+door_to f s (Some (enter.Full passes)) client row act call known = refused_to f client known status.Resource
+door_to f s (Some enter.Unknown) client row act call known = refused_to f client known (unknown_status act)
 
-unfoldable pub tries_to : FileTables → ℕ → Action → Call → Known → TriedTo
-tries_to f client act call known =
+unfoldable pub tries_to : FileTables → ℕ → ClientRow → Action → Call → Known → TriedTo
+tries_to f client row act call known =
     let knocked = knocks_to requests_limit f (place_of client f.fs f.first known.places) in
-    door_to knocked.file knocked.server knocked.door client act call
+    door_to knocked.file knocked.server knocked.door client row act call
     (record known { places = sent_to client f.fs knocked.server known.places })
 
 -- ---- the run
@@ -294,7 +294,7 @@ told_tried t row act tried = record {
 unfoldable pub told_call : TablesNow → ℕ → ClientRow → Action → Option Call → Option FileTables → Step
 told_call t client row act None f = record { rows = outcome row act told.NoState ∷ []; next = t }
 told_call t client row act (Some call) None = says_nothing t
-told_call t client row act (Some call) (Some f) = told_tried t row act (tries_to f client act call t.known)
+told_call t client row act (Some call) (Some f) = told_tried t row act (tries_to f client row act call t.known)
 
 unfoldable pub told_act : TablesNow → ℕ → ClientRow → Action → Step
 told_act t client row act = told_call t client row act (call_of client row t.known act) (slice_get t.files (fs_of act))

@@ -1,24 +1,24 @@
 //! What a client does with a file system.
-ghost use Rattle.std.specs.Prelude.{◌≡◌, ◌++◌, [], Some, None, IfOk, OnOk, map};
+ghost use Rattle.std.specs.Prelude.{◌≡◌, ◌≤◌, ◌++◌, [], length, IfOk, OnOk, map};
 ghost use Rattle.nm_rules.specs.Answer.{refused_value};
-ghost use Rattle.nm_rules.specs.declared.calls.Deed.TheVariants.{Open as OpenDeed, ReadDir as ReadDirDeed};
 ghost use Rattle.nm_rules.specs.declared.calls.Verdict.TheVariants.{Pass};
 ghost use Rattle.nm_slot.specs.Answers.{apply_answer};
 ghost use Rattle.nm_slot.specs.SlotNow.SlotStep.{Applying};
 ghost use Rattle.nm_short.specs.Files.{asked_in, knocked_to, sent_on};
 ghost use Rattle.nm_short.specs.Known.{sent_to, put_down, taken_up};
 ghost use Rattle.nm_short.specs.Runs.{tried_to};
-ghost use Rattle.nm_short.specs.Requests.{requests_limit, reply_of, last_cookie, more_of, confirms, goes_on_by, goes_on_with, names_of, told_ok, told_by, unknown_status};
+ghost use Rattle.nm_short.specs.Requests.{requests_limit, reply_of, last_cookie, more_of, confirms, opening_goes_on, listing_goes_on, tests, goes_on_with, names_of, told_ok, told_refused, told_by, unknown_status};
 ghost use Rattle.nm_short.specs.Tables.{knocks_to, asks_to, asked_to, calls_to, door_to, tries_to, slot_in, stepped};
 
 use crate::clients::{Clients, seqid_after};
 use crate::files::FileSlots;
+use crate::locking::make_test;
 use crate::sends::{make_confirm, make_list};
 use nm_rules::{
-    Action, Call, Deed, DirEntry, Instance, Items, Memory, OpStatus, OpenArgs, Opened, ReadDirArgs,
-    ReadDirOk, Reply, ReplyValue, ServerNum,
+    Action, Call, Deed, DirEntry, Instance, Items, LockOutcome, Memory, OpStatus, OpenArgs, Opened,
+    ReadDirArgs, ReadDirOk, Reply, ReplyValue, ServerNum,
 };
-use nm_script::{Names, Told};
+use nm_script::{ClientRow, Names, Told};
 use nm_slot::{Answer, Enter, FsPass};
 use std::alloc::Global;
 
@@ -61,6 +61,8 @@ fn refused_value(alloc: Global, deed: &Deed) -> ReplyValue
         Deed::Commit(_) => ReplyValue::Commit(None),
         Deed::Create(_) => ReplyValue::Create(None),
         Deed::GetAttr(_) => ReplyValue::GetAttr(None),
+        Deed::Lock(_) => ReplyValue::Lock(None),
+        Deed::LockTest(_) => ReplyValue::LockTest(None),
         Deed::Lookup(_) => ReplyValue::Lookup(None),
         Deed::LookupP => ReplyValue::LookupP(None),
         Deed::Open(_) => ReplyValue::Open(None),
@@ -68,8 +70,10 @@ fn refused_value(alloc: Global, deed: &Deed) -> ReplyValue
         Deed::OpenDowngrade(_) => ReplyValue::OpenDowngrade(None),
         Deed::Read(_) => ReplyValue::Read(None),
         Deed::ReadDir(_) => ReplyValue::ReadDir(None),
+        Deed::ReleaseLockOwner(_) => ReplyValue::ReleaseLockOwner(false),
         Deed::Remove(_) => ReplyValue::Remove(None),
         Deed::SetAttr(_) => ReplyValue::SetAttr(Items::new(alloc)),
+        Deed::Unlock(_) => ReplyValue::Unlock(None),
         Deed::Write(_) => ReplyValue::Write(None),
     }
 }
@@ -99,7 +103,9 @@ fn unknown_status(action: &Action) -> OpStatus
     match action {
         Action::Open(_) | Action::Create(_) => OpStatus::NoEnt,
         Action::Remove(_) | Action::MkDir(_) | Action::List(_) => OpStatus::NoEnt,
+        Action::Test(_) | Action::Release(_) => OpStatus::NoEnt,
         Action::Close(_) | Action::Downgrade(_) => OpStatus::Stale,
+        Action::Lock(_) | Action::Unlock(_) => OpStatus::Stale,
         Action::Read(_) | Action::Write(_) | Action::Size(_) => OpStatus::Stale,
     }
 }
@@ -137,10 +143,31 @@ fn confirms(caller: Option<Instance>, args: &OpenArgs, opened: &Opened) -> Optio
     Some(make_confirm(caller, opened, seqid))
 }
 
+// The LOCKT that goes on with the LOOKUP of a test.
+#[tactic(auto, unfolding(crate::specs::Requests::tests))]
+fn tests(
+    alloc: Global,
+    client: u32,
+    row: &ClientRow,
+    action: &Action,
+    value: &ReplyValue,
+) -> Result<Option<Call>, Memory>
+    requires { length row.now.name ≤ 16 }
+    ensures { IfOk result (λ call. call ≡ tests client row.now action.now value.now) }
+{
+    let Action::Test(a) = action else {
+        return Ok(None);
+    };
+    match value {
+        ReplyValue::Lookup(Some(file)) => Ok(Some(make_test(alloc, client, row, a, *file)?)),
+        _ => Ok(None),
+    }
+}
+
 // The request that goes on with an OPEN.
-#[tactic(auto, unfolding(crate::specs::Requests::goes_on_by))]
+#[tactic(auto, unfolding(crate::specs::Requests::opening_goes_on))]
 fn goes_on_opening(caller: Option<Instance>, args: &OpenArgs, value: &ReplyValue) -> Option<Call>
-    ensures { result ≡ goes_on_by caller (OpenDeed args.now) value.now }
+    ensures { result ≡ opening_goes_on caller args.now value.now }
 {
     match value {
         ReplyValue::Open(Some(opened)) => confirms(caller, args, opened),
@@ -149,14 +176,9 @@ fn goes_on_opening(caller: Option<Instance>, args: &OpenArgs, value: &ReplyValue
 }
 
 // The request that goes on with a READDIR.
-#[tactic(auto, unfolding(crate::specs::Requests::goes_on_by))]
-fn goes_on_listing(
-    alloc: Global,
-    caller: Option<Instance>,
-    args: &ReadDirArgs,
-    value: &ReplyValue,
-) -> Option<Call>
-    ensures { result ≡ goes_on_by caller (ReadDirDeed args.now) value.now }
+#[tactic(auto, unfolding(crate::specs::Requests::listing_goes_on))]
+fn goes_on_listing(alloc: Global, args: &ReadDirArgs, value: &ReplyValue) -> Option<Call>
+    ensures { result ≡ listing_goes_on args.now value.now }
 {
     match value {
         ReplyValue::ReadDir(Some(ok)) => more_of(alloc, args, ok),
@@ -166,16 +188,22 @@ fn goes_on_listing(
 
 // The request that goes on with another.
 #[tactic(auto, unfolding(crate::specs::Requests::goes_on_by))]
-fn goes_on_with(alloc: Global, call: &Call, value: &ReplyValue) -> Option<Call>
-    ensures { result ≡ goes_on_with call.now value.now }
+fn goes_on_with(
+    alloc: Global,
+    client: u32,
+    row: &ClientRow,
+    action: &Action,
+    call: &Call,
+    value: &ReplyValue,
+) -> Result<Option<Call>, Memory>
+    requires { length row.now.name ≤ 16 }
+    ensures { IfOk result (λ next. next ≡ goes_on_with client row.now action.now call.now value.now) }
 {
     match &call.deed {
-        Deed::Open(args) => goes_on_opening(call.caller, args, value),
-        Deed::ReadDir(args) => goes_on_listing(alloc, call.caller, args, value),
-        Deed::Access(_) | Deed::Close(_) | Deed::Commit(_) | Deed::Create(_) => None,
-        Deed::GetAttr(_) | Deed::Lookup(_) | Deed::LookupP => None,
-        Deed::OpenConfirm(_) | Deed::OpenDowngrade(_) | Deed::Read(_) => None,
-        Deed::Remove(_) | Deed::SetAttr(_) | Deed::Write(_) => None,
+        Deed::Open(args) => Ok(goes_on_opening(call.caller, args, value)),
+        Deed::ReadDir(args) => Ok(goes_on_listing(alloc, args, value)),
+        Deed::Lookup(_) => Ok(tests(alloc, client, row, action, value)?),
+        _ => Ok(None),
     }
 }
 
@@ -213,6 +241,19 @@ fn told_ok(value: ReplyValue, names: Names) -> Told
     }
 }
 
+// What a client is told of another status.
+#[tactic(auto, unfolding(crate::specs::Requests::told_refused))]
+fn told_refused(status: OpStatus, value: ReplyValue) -> Told
+    ensures { result ≡ told_refused status value }
+{
+    match value {
+        ReplyValue::Lock(Some(LockOutcome::Denied(denied))) => Told::Denied(denied),
+        ReplyValue::LockTest(Some(denied)) => Told::Denied(denied),
+        ReplyValue::Lookup(_) => Told::Refused(status),
+        _ => Told::Answered(status),
+    }
+}
+
 // What a client is told of the last reply, and of the names that all of them listed.
 #[tactic(auto, unfolding(crate::specs::Requests::told_by))]
 fn told_by(reply: Reply, names: Names) -> Told
@@ -221,7 +262,7 @@ fn told_by(reply: Reply, names: Names) -> Told
     if reply.status.is_done() {
         told_ok(reply.value, names)
     } else {
-        Told::Answered(reply.status)
+        told_refused(reply.status, reply.value)
     }
 }
 
@@ -271,17 +312,19 @@ impl FileSlots {
         server: ServerNum,
         pass: &FsPass,
         client: u32,
+        row: &ClientRow,
         action: &Action,
         first: &Call,
     ) -> Result<Asked, Memory>
-        ensures { IfOk result (λ asked. asked_in asked self.new clients.new ≡ asks_to requests_limit self.old server pass.now.epoch client action.now first.now clients.old []) }
+        requires { length row.now.name ≤ 16 }
+        ensures { IfOk result (λ asked. asked_in asked self.new clients.new ≡ asks_to requests_limit self.old server pass.now.epoch client row.now action.now first.now clients.old []) }
     {
         let mut names = Items::new(self.alloc);
         let mut call = first.copy()?;
         for _count in 0..REQUESTS_LIMIT {
             let reply = self.request(server, pass, &call, &mut names)?;
-            clients.learn(client, action, &call.deed, &reply)?;
-            match goes_on_with(self.alloc, &call, &reply.value) {
+            clients.learn(client, action, &call, &reply)?;
+            match goes_on_with(self.alloc, client, row, action, &call, &reply.value)? {
                 Some(next) => call = next,
                 None => {
                     return Ok(Asked {
@@ -322,12 +365,14 @@ impl FileSlots {
         server: ServerNum,
         pass: FsPass,
         client: u32,
+        row: &ClientRow,
         action: &Action,
         call: &Call,
     ) -> Result<Told, Memory>
-        ensures { IfOk result (λ told. tried_to told self.new clients.new ≡ calls_to self.old server pass.epoch client action.now call.now clients.old) }
+        requires { length row.now.name ≤ 16 }
+        ensures { IfOk result (λ told. tried_to told self.new clients.new ≡ calls_to self.old server pass.epoch client row.now action.now call.now clients.old) }
     {
-        let asked = self.ask(clients, server, &pass, client, action, call)?;
+        let asked = self.ask(clients, server, &pass, client, row, action, call)?;
         self.leave(server, pass);
         Ok(self.tell(clients, asked, client, action)?)
     }
@@ -339,10 +384,12 @@ impl FileSlots {
         clients: &mut Clients,
         knocked: Knocked,
         client: u32,
+        row: &ClientRow,
         action: &Action,
         call: &Call,
     ) -> Result<Told, Memory>
-        ensures { IfOk result (λ told. tried_to told self.new clients.new ≡ door_to self.old knocked.server knocked.door client action.now call.now clients.old) }
+        requires { length row.now.name ≤ 16 }
+        ensures { IfOk result (λ told. tried_to told self.new clients.new ≡ door_to self.old knocked.server knocked.door client row.now action.now call.now clients.old) }
     {
         let Knocked { server, door } = knocked;
         let Some(answer) = door else {
@@ -350,7 +397,9 @@ impl FileSlots {
             return Ok(Told::Stopped);
         };
         match answer {
-            Enter::Entered(pass) => { Ok(self.call(clients, server, pass, client, action, call)?) }
+            Enter::Entered(pass) => {
+                Ok(self.call(clients, server, pass, client, row, action, call)?)
+            }
             Enter::Delay => {
                 clients.take_up(client, action)?;
                 Ok(Told::Delayed)
@@ -377,15 +426,17 @@ impl FileSlots {
         &mut self,
         clients: &mut Clients,
         client: u32,
+        row: &ClientRow,
         action: &Action,
         call: &Call,
     ) -> Result<Told, Memory>
-        ensures { IfOk result (λ told. tried_to told self.new clients.new ≡ tries_to self.old client action.now call.now clients.old) }
+        requires { length row.now.name ≤ 16 }
+        ensures { IfOk result (λ told. tried_to told self.new clients.new ≡ tries_to self.old client row.now action.now call.now clients.old) }
     {
         let fs = self.fs();
         let from = clients.place_of(client, fs, self.first);
         let knocked = self.knock(from);
         clients.send_to(client, fs, knocked.server)?;
-        Ok(self.pass_door(clients, knocked, client, action, call)?)
+        Ok(self.pass_door(clients, knocked, client, row, action, call)?)
     }
 }

@@ -1,10 +1,10 @@
 //! What the clients of a script know.
 ghost use Rattle.std.specs.Prelude.{◌≡◌, ◌==◌, not, filter, find, map, IfOk, OnOk, option_copied};
 ghost use Rattle.nm_rules.specs.Shares.{next_seqid};
-ghost use Rattle.nm_short.specs.Known.{knows_nothing, is_place_of, is_held_of, seqid_of, other_seqids, moved_on, held_of, others_held, holds_opened, holds_closed, told_stateid, renewed_held, holds_told, learned, learned_opening, learned_open, learned_anew, learned_close, place_of, sent_to, hand_of, put_down, taken_up};
+ghost use Rattle.nm_short.specs.Known.{knows_nothing, is_place_of, is_held_of, seqid_of, other_seqids, moved_on, held_of, others_held, holds_now, holds_opened, holds_closed, told_stateid, renewed_held, holds_told, learned, learned_opening, learned_open, learned_anew, learned_close, place_of, sent_to, hand_of, put_down, taken_up};
 
 use nm_rules::{
-    Action, Bytes, CloseAction, Deed, FsNum, Memory, OpStatus, OpenAction, Reply, ReplyValue,
+    Action, Bytes, Call, CloseAction, Deed, FsNum, Memory, OpStatus, OpenAction, Reply, ReplyValue,
     ServerNum, StateId,
 };
 use std::alloc::Global;
@@ -20,9 +20,9 @@ pub struct OwnerSeqid {
     pub next: u32,
 }
 
-/// An open that a client holds.
+/// What an owner of a client holds on a file: an open, or byte-range locks.
 #[derive(Debug, PartialEq, Eq, Drop)]
-pub struct HeldOpen {
+pub struct Holding {
     pub client: u32,
     pub fs: FsNum,
     /// The owner's name.
@@ -54,8 +54,14 @@ pub struct InHand {
 #[derive(Debug, Drop)]
 pub struct Clients {
     pub(crate) alloc: Global,
-    seqids: Vec<OwnerSeqid>,
-    held: Vec<HeldOpen>,
+    /// The next seqids of open owners.
+    pub(crate) seqids: Vec<OwnerSeqid>,
+    /// Those of lock owners.
+    pub(crate) lock_seqids: Vec<OwnerSeqid>,
+    /// The stateids of opens.
+    held: Vec<Holding>,
+    /// Those of lock owners.
+    pub(crate) locks: Vec<Holding>,
     places: Vec<Believed>,
     in_hand: Vec<InHand>,
 }
@@ -65,12 +71,19 @@ impl Model for Clients {
 
     ghost Value = { Known };
 
-    ghost view = { λ c. record { seqids = c.seqids.items; held = c.held.items; places = c.places.items; in_hand = c.in_hand.items } };
+    ghost view = { λ c. record {
+      seqids = c.seqids.items;
+      lock_seqids = c.lock_seqids.items;
+      held = c.held.items;
+      locks = c.locks.items;
+      places = c.places.items;
+      in_hand = c.in_hand.items;
+    } };
 }
 
-// The next seqid of an owner.
+/// The next seqid of an owner.
 #[tactic(auto, unfolding(crate::specs::Known::seqid_of))]
-fn find_seqid(rows: &[OwnerSeqid], client: u32, fs: FsNum, owner: &[u8]) -> u32
+pub fn find_seqid(rows: &[OwnerSeqid], client: u32, fs: FsNum, owner: &[u8]) -> u32
     ensures { result ≡ seqid_of client fs owner.now rows.now }
 {
     rows.iter()
@@ -93,9 +106,9 @@ pub fn seqid_after(n: u32) -> u32
     if n == u32::MAX { 1 } else { n + 1 }
 }
 
-// Moves an owner on, where the status advances.
+/// Moves an owner on, where the status advances.
 #[tactic(auto, unfolding(crate::specs::Known::moved_on))]
-fn move_on(
+pub fn move_on(
     rows: &mut Vec<OwnerSeqid>,
     client: u32,
     fs: FsNum,
@@ -118,22 +131,22 @@ fn move_on(
     Ok(())
 }
 
-// An owner of a client holds that open on the file.
-fn is_held_of(row: &HeldOpen, client: u32, fs: FsNum, owner: &[u8], file: &[u8]) -> bool
+// An owner of a client holds that on the file.
+fn is_held_of(row: &Holding, client: u32, fs: FsNum, owner: &[u8], file: &[u8]) -> bool
     ensures { result ≡ is_held_of client fs owner.now file.now row.now }
 {
     row.client == client && row.fs == fs && row.owner.items() == owner && row.file.items() == file
 }
 
-// What an owner of a client holds on a file.
+/// What an owner of a client holds on a file.
 #[tactic(auto, unfolding(crate::specs::Known::held_of))]
-fn find_held<'a>(
-    rows: &'a [HeldOpen],
+pub fn find_held<'a>(
+    rows: &'a [Holding],
     client: u32,
     fs: FsNum,
     owner: &[u8],
     file: &[u8],
-) -> Option<&'a HeldOpen>
+) -> Option<&'a Holding>
     ensures { option_copied result ≡ held_of client fs owner.now file.now rows.now }
 {
     rows.iter()
@@ -141,16 +154,41 @@ fn find_held<'a>(
 }
 
 // What all others hold.
-fn drop_held(rows: &mut Vec<HeldOpen>, client: u32, fs: FsNum, owner: &[u8], file: &[u8])
+fn drop_held(rows: &mut Vec<Holding>, client: u32, fs: FsNum, owner: &[u8], file: &[u8])
     ensures { rows.new.items ≡ others_held client fs owner.now file.now rows.old.items }
 {
     rows.retain(|row| !is_held_of(row, client, fs, owner, file));
 }
 
+/// A client holds that stateid on the file, in the place of an older one.
+pub fn hold_now(
+    rows: &mut Vec<Holding>,
+    client: u32,
+    fs: FsNum,
+    owner: &Bytes,
+    file: &Bytes,
+    handle: u64,
+    id: StateId,
+) -> Result<(), Memory>
+    ensures { OnOk result (rows.new.items ≡ holds_now client fs owner.now file.now handle id rows.old.items) }
+{
+    let row = Holding {
+        client,
+        fs,
+        owner: owner.copy()?,
+        file: file.copy()?,
+        handle,
+        stateid: id,
+    };
+    drop_held(rows, client, fs, owner.items(), file.items());
+    rows.push(row)?;
+    Ok(())
+}
+
 // What the reply to an OPEN leaves in a client's hands.
 #[tactic(auto, unfolding(crate::specs::Known::holds_opened))]
 fn hold_opened(
-    rows: &mut Vec<HeldOpen>,
+    rows: &mut Vec<Holding>,
     client: u32,
     a: &OpenAction,
     value: &ReplyValue,
@@ -158,24 +196,15 @@ fn hold_opened(
     ensures { OnOk result (rows.new.items ≡ holds_opened client a.now value.now rows.old.items) }
 {
     if let ReplyValue::Open(Some(opened)) = value {
-        let owner = a.owner.copy()?;
-        let file = a.file.copy()?;
-        drop_held(rows, client, a.fs, a.owner.items(), a.file.items());
-        rows.push(HeldOpen {
-            client,
-            fs: a.fs,
-            owner,
-            file,
-            handle: opened.file,
-            stateid: opened.ok.stateid,
-        })?;
+        let id = opened.ok.stateid;
+        hold_now(rows, client, a.fs, &a.owner, &a.file, opened.file, id)?;
     }
     Ok(())
 }
 
 // What the reply to a CLOSE leaves in a client's hands.
 #[tactic(auto, unfolding(crate::specs::Known::holds_closed))]
-fn hold_closed(rows: &mut Vec<HeldOpen>, client: u32, a: &CloseAction, value: &ReplyValue)
+fn hold_closed(rows: &mut Vec<Holding>, client: u32, a: &CloseAction, value: &ReplyValue)
     ensures { rows.new.items ≡ holds_closed client a.now value.now rows.old.items }
 {
     if let ReplyValue::Close(Some(_)) = value {
@@ -195,7 +224,7 @@ fn told_stateid(value: &ReplyValue) -> Option<StateId>
 }
 
 // What an owner holds on the file has that stateid then.
-fn renew_row(row: &mut HeldOpen, client: u32, a: &OpenAction, id: StateId)
+fn renew_row(row: &mut Holding, client: u32, a: &OpenAction, id: StateId)
     ensures { row.new ≡ renewed_held client a.now id row.old }
 {
     if is_held_of(row, client, a.fs, a.owner.items(), a.file.items()) {
@@ -204,7 +233,7 @@ fn renew_row(row: &mut HeldOpen, client: u32, a: &OpenAction, id: StateId)
 }
 
 // What an owner holds on a file has that stateid then.
-fn renew_held(rows: &mut Vec<HeldOpen>, client: u32, a: &OpenAction, id: StateId)
+fn renew_held(rows: &mut Vec<Holding>, client: u32, a: &OpenAction, id: StateId)
     ensures { rows.new.items ≡ map (renewed_held client a.now id) rows.old.items }
 {
     for row in rows.iter_mut() {
@@ -213,7 +242,7 @@ fn renew_held(rows: &mut Vec<HeldOpen>, client: u32, a: &OpenAction, id: StateId
 }
 
 // What the reply to an OPEN_CONFIRM or to an OPEN_DOWNGRADE leaves in a client's hands.
-fn hold_told(rows: &mut Vec<HeldOpen>, client: u32, a: &OpenAction, value: &ReplyValue)
+fn hold_told(rows: &mut Vec<Holding>, client: u32, a: &OpenAction, value: &ReplyValue)
     ensures { rows.new.items ≡ holds_told client a.now (told_stateid value.now) rows.old.items }
 {
     if let Some(id) = told_stateid(value) {
@@ -262,7 +291,9 @@ impl Clients {
         Clients {
             alloc,
             seqids: Vec::new(alloc),
+            lock_seqids: Vec::new(alloc),
             held: Vec::new(alloc),
+            locks: Vec::new(alloc),
             places: Vec::new(alloc),
             in_hand: Vec::new(alloc),
         }
@@ -276,7 +307,7 @@ impl Clients {
     }
 
     /// What an owner of a client holds on a file.
-    pub fn held_of(&self, client: u32, fs: FsNum, owner: &Bytes, file: &Bytes) -> Option<&HeldOpen>
+    pub fn held_of(&self, client: u32, fs: FsNum, owner: &Bytes, file: &Bytes) -> Option<&Holding>
         ensures { option_copied result ≡ held_of client fs owner.now file.now self.now.held }
     {
         find_held(&self.held, client, fs, owner.items(), file.items())
@@ -305,6 +336,7 @@ impl Clients {
     {
         move_on(&mut self.seqids, client, a.fs, &a.owner, reply.status)?;
         hold_closed(&mut self.held, client, a, &reply.value);
+        hold_closed(&mut self.locks, client, a, &reply.value);
         Ok(())
     }
 
@@ -326,21 +358,26 @@ impl Clients {
         }
     }
 
-    /// The reply to an operation that a client made for an action. After want of memory nothing is promised of what is known.
+    /// The reply to a call that a client made for an action. After want of memory nothing is promised of what is known.
     #[tactic(auto, unfolding(crate::specs::Known::learned))]
     pub fn learn(
         &mut self,
         client: u32,
         action: &Action,
-        deed: &Deed,
+        call: &Call,
         reply: &Reply,
     ) -> Result<(), Memory>
-        ensures { OnOk result (self.new ≡ learned client action.now deed.now reply.now self.old) }
+        ensures { OnOk result (self.new ≡ learned client action.now call.now reply.now self.old) }
     {
         match action {
-            Action::Open(a) | Action::Create(a) => Ok(self.learn_opening(client, a, deed, reply)?),
+            Action::Open(a) | Action::Create(a) => {
+                Ok(self.learn_opening(client, a, &call.deed, reply)?)
+            }
             Action::Close(a) => Ok(self.learn_close(client, a, reply)?),
             Action::Downgrade(a) => Ok(self.learn_anew(client, a, reply)?),
+            Action::Lock(a) => Ok(self.learn_lock(client, a, call.file, &call.deed, reply)?),
+            Action::Unlock(a) => Ok(self.learn_unlock(client, a, call.file, reply)?),
+            Action::Test(_) | Action::Release(_) => Ok(()),
             Action::Read(_) | Action::Write(_) | Action::Size(_) => Ok(()),
             Action::Remove(_) | Action::MkDir(_) | Action::List(_) => Ok(()),
         }

@@ -8,6 +8,7 @@ mod asks;
 mod clients;
 mod files;
 mod laws;
+mod locking;
 mod names;
 mod orders;
 mod run;

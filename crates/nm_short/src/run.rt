@@ -104,13 +104,14 @@ impl Run {
         action: &Action,
         call: &Call,
     ) -> Result<Report, Memory>
+        requires { length row.now.name ≤ 16 }
         ensures { IfOk result (λ rows. step_to rows self.new ≡ told_call self.old client row.now action.now (Some call.now) (slice_get self.old.files (fs_of action.now))) }
     {
         let at = action.fs().number() as usize;
         if at >= self.files.len() {
             return Ok(Items::new(self.alloc));
         }
-        let told = self.files[at].tries(&mut self.clients, client, action, call)?;
+        let told = self.files[at].tries(&mut self.clients, client, row, action, call)?;
         Ok(outcome_of(self.alloc, row, action, told)?)
     }
 

@@ -3,7 +3,8 @@ ghost use Rattle.std.specs.Prelude.{◌≡◌, ◌≤◌, ◌++◌, length, code
 ghost use Rattle.nm_rules.specs.Wire.{hyper};
 ghost use Rattle.nm_short.specs.Known.{seqid_of, held_of, party_of, owner_text, no_attributes, size_alone, open_call, confirm_call, close_call, downgrade_call, read_call, write_call, size_call, remove_call, mkdir_call, list_call, call_of};
 
-use crate::clients::{Clients, HeldOpen};
+use crate::clients::{Clients, Holding};
+use crate::locking::{make_lookup, make_release};
 use nm_rules::{
     Action, Bytes, Call, Claim, CloseAction, CloseArgs, CreateArgs, CreateType, Deed, Fattr,
     Instance, Items, Memory, OpenAction, OpenArgs, OpenConfirmArgs, OpenDowngradeArgs, OpenType,
@@ -22,9 +23,9 @@ fn joined(alloc: Global, front: &[u8], back: &[u8]) -> Result<Vec<u8>, Memory>
     Ok(bytes)
 }
 
-// A client's instance.
+/// A client's instance.
 #[tactic(auto, unfolding(crate::specs::Known::party_of))]
-fn instance_of(alloc: Global, client: u32, row: &ClientRow) -> Result<Instance, Memory>
+pub fn instance_of(alloc: Global, client: u32, row: &ClientRow) -> Result<Instance, Memory>
     requires { length row.now.name ≤ 16 }
     ensures { IfOk result (λ instance. instance ≡ party_of client row.now) }
 {
@@ -39,9 +40,9 @@ fn instance_of(alloc: Global, client: u32, row: &ClientRow) -> Result<Instance, 
     }
 }
 
-// An owner's text.
+/// An owner's text.
 #[tactic(auto, unfolding(crate::specs::Known::owner_text))]
-fn text_of_owner(alloc: Global, row: &ClientRow, owner: &Bytes) -> Result<Bytes, Memory>
+pub fn text_of_owner(alloc: Global, row: &ClientRow, owner: &Bytes) -> Result<Bytes, Memory>
     ensures { IfOk result (λ text. text ≡ owner_text row.now owner.now) }
 {
     let mut text = joined(alloc, row.name.items(), b"/")?;
@@ -111,7 +112,7 @@ fn make_close(
     alloc: Global,
     client: u32,
     row: &ClientRow,
-    held: &HeldOpen,
+    held: &Holding,
     seqid: u32,
 ) -> Result<Call, Memory>
     requires { length row.now.name ≤ 16 }
@@ -151,7 +152,7 @@ fn make_downgrade(
     client: u32,
     row: &ClientRow,
     a: &OpenAction,
-    held: &HeldOpen,
+    held: &Holding,
     seqid: u32,
 ) -> Result<Call, Memory>
     requires { length row.now.name ≤ 16 }
@@ -177,7 +178,7 @@ fn make_read(
     client: u32,
     row: &ClientRow,
     a: &ReadAction,
-    held: &HeldOpen,
+    held: &Holding,
 ) -> Result<Call, Memory>
     requires { length row.now.name ≤ 16 }
     ensures { IfOk result (λ call. call ≡ read_call client row.now a.now held.now) }
@@ -202,7 +203,7 @@ fn make_write(
     client: u32,
     row: &ClientRow,
     a: &WriteAction,
-    held: &HeldOpen,
+    held: &Holding,
 ) -> Result<Call, Memory>
     requires { length row.now.name ≤ 16 }
     ensures { IfOk result (λ call. call ≡ write_call client row.now a.now held.now) }
@@ -227,7 +228,7 @@ fn make_size(
     client: u32,
     row: &ClientRow,
     a: &SizeAction,
-    held: &HeldOpen,
+    held: &Holding,
 ) -> Result<Call, Memory>
     requires { length row.now.name ≤ 16 }
     ensures { IfOk result (λ call. call ≡ size_call client row.now a.now held.now) }
@@ -408,6 +409,10 @@ impl Clients {
             }
             Action::Close(a) => Ok(self.close_call(client, row, a)?),
             Action::Downgrade(a) => Ok(self.downgrade_call(client, row, a)?),
+            Action::Lock(a) => Ok(self.lock_call(client, row, a)?),
+            Action::Unlock(a) => Ok(self.unlock_call(client, row, a)?),
+            Action::Test(a) => Ok(Some(make_lookup(&a.file)?)),
+            Action::Release(a) => Ok(Some(make_release(self.alloc, client, row, a)?)),
             Action::Read(a) => Ok(self.read_call(client, row, a)?),
             Action::Write(a) => Ok(self.write_call(client, row, a)?),
             Action::Size(a) => Ok(self.size_call(client, row, a)?),
