@@ -9,23 +9,25 @@ use Rattle.nm_rules.specs.Checks.Stop.{Refuse}
 use Rattle.nm_rules.specs.Contents.{tree_after}
 use Rattle.nm_rules.specs.Files.{current}
 use Rattle.nm_rules.specs.LockAsks.{access_for, counter_of, is_no_range, kind_of, last_of, lock_owner, range_stop}
-use Rattle.nm_rules.specs.LockOps.{changed_lock, denied_stop, denied_told, in_the_way, known_checks, lock_checks, lock_denied, lock_fault, locked_stateid, locker_counter, new_checks, new_limit, next_lock_stateid, ranges_with, rows_stop, rows_with_known, test_barrier, test_checks, test_denied, unlock_checks}
+use Rattle.nm_rules.specs.LockOps.{changed_lock, denied_stop, denied_told, in_the_way, known_checks, lock_checks, lock_denied, lock_fault, locked_stateid, locker_counter, new_checks, new_limit, next_lock_stateid, ranges_with, release_checks, rows_stop, rows_with_known, test_barrier, test_checks, test_denied, unlock_checks}
 use Rattle.nm_rules.specs.LockRows.{claim_if, clear_if, lock_at, locks_after, ranges_after, ranges_on, renewed_lock}
 use Rattle.nm_rules.specs.Locks.{barrier}
 use Rattle.nm_rules.specs.Parties.{Party}
-use Rattle.nm_rules.specs.Past.{closed_by, deed_words, noted_row, started_by, with_owners}
+use Rattle.nm_rules.specs.Past.{closed_by, deed_words, noted_row, seqid_owner, started_by, with_owners}
 use Rattle.nm_rules.specs.Seen.{Seen, after_words, look}
 use Rattle.nm_rules.specs.Seqids.{closed_after, owner_at, owners_after}
-use Rattle.nm_rules.specs.Seqids.OwnerWord.{Stays}
+use Rattle.nm_rules.specs.Seqids.OwnerWord.{Gone, Stays}
 use Rattle.nm_rules.specs.Shares.{opens_after}
 use Rattle.nm_rules.specs.Stateids.{given_seqid, is_owner_confirmed, live_stop, lock_live_stop, lock_named, lock_stop, mode_stop, open_named, opened_access, seqid_stop, stateid_stop}
 use Rattle.nm_rules.specs.declared.args.LockArgs.{LockArgs}
 use Rattle.nm_rules.specs.declared.args.LockTestArgs.{LockTestArgs}
 use Rattle.nm_rules.specs.declared.args.Locker.TheVariants.{Known}
+use Rattle.nm_rules.specs.declared.args.ReleaseLockOwnerArgs.{ReleaseLockOwnerArgs}
 use Rattle.nm_rules.specs.declared.args.UnlockArgs.{UnlockArgs}
 use Rattle.nm_rules.specs.declared.calls.Call.{Call}
 use Rattle.nm_rules.specs.declared.calls.Deed.TheVariants as deed
 use Rattle.nm_rules.specs.declared.calls.Event.TheVariants.{Asked}
+use Rattle.nm_rules.specs.declared.calls.Owner.{Owner}
 use Rattle.nm_rules.specs.declared.calls.Reply.{Reply}
 use Rattle.nm_rules.specs.declared.calls.ReplyValue.TheVariants as told
 use Rattle.nm_rules.specs.declared.calls.StateId.{StateId}
@@ -42,9 +44,10 @@ use Rattle.nm_rules.specs.declared.status.OpStatus.{OpStatus}
 use Rattle.nm_rules.specs.declared.status.OpStatus.TheVariants.{BadStateId, Inval, IsDir, Nfs4Ok, NoGrace, OldStateId, OpenMode, Resource, Stale, StaleClientId, Denied as DeniedStatus}
 use Rattle.nm_rules.proofs.Classes.{or_none, refuse_if-none}
 use Rattle.nm_state.specs.Locking.{IsOn, after_drawing, after_locks, after_new_lock, known_front, locker_of, new_front, refused_lock, test_front}
+use Rattle.nm_state.specs.Opening.{Applied, after_release}
 use Rattle.nm_state.specs.Turns.{Comes, Locks, Went, reply_behind, start_word}
 use Rattle.nm_state.specs.declared.lock_asks.Newcomer.{Newcomer}
-use Rattle.nm_state.proofs.OpeningLemmas.{other_refusal}
+use Rattle.nm_state.proofs.OpeningLemmas.{applied_refused, applied_starting, other_refusal}
 use Rattle.nm_state.proofs.TurnLemmas.{comes_is, known_is, went_refused_as}
 
 -- ---- ranges
@@ -582,3 +585,41 @@ unfolding is_denial test_denied
 test_denied_answer s party file args verdict way h denied free its found told_so =
     ap (λ d. reply_with DeniedStatus (told.LockTest d)) (told_so ∙ ap (denied_told s.locks) (sym found ∙ its))
     ∙ test_answered s party file args verdict (Some h) free (sym found ∙ its)
+
+pub test_as : (s : Seen) (caller its : Option Party) (file : ℕ) (args : LockTestArgs) (verdict : Verdict) (r : Reply) → caller ≡ its
+    → r ≡ answer_to s (Asked (record { caller = its; file = file; deed = deed.LockTest args }) verdict)
+    → r ≡ answer_to s (Asked (record { caller = caller; file = file; deed = deed.LockTest args }) verdict)
+test_as s caller its file args verdict r is it =
+    it ∙ ap (λ who. answer_to s (Asked (record { caller = who; file = file; deed = deed.LockTest args }) verdict)) (sym is)
+
+-- ---- RELEASE_LOCKOWNER
+
+pub release_nobody : (s : Seen) (caller : Option Party) (file : ℕ) (args : ReleaseLockOwnerArgs) (verdict : Verdict) → caller ≡ None
+    → Applied s (Asked (record { caller = caller; file = file; deed = deed.ReleaseLockOwner args }) verdict) (reply_with StaleClientId (told.ReleaseLockOwner false)) s
+unfolding release_checks seqid_owner
+release_nobody s caller file args verdict is =
+    subst (λ who. Applied s (Asked (record { caller = who; file = file; deed = deed.ReleaseLockOwner args }) verdict) (reply_with StaleClientId (told.ReleaseLockOwner false)) s) (sym is)
+    (applied_refused s (record { caller = None; file = file; deed = deed.ReleaseLockOwner args }) verdict StaleClientId refl refl refl)
+
+pub release_refused : (s : Seen) (caller : Option Party) (party : Party) (file : ℕ) (args : ReleaseLockOwnerArgs) (verdict : Verdict) (status : OpStatus) → caller ≡ Some party
+    → Some (Refuse status) ≡ first (release_checks s (Some party) args verdict)
+    → Applied s (Asked (record { caller = caller; file = file; deed = deed.ReleaseLockOwner args }) verdict) (reply_with status (told.ReleaseLockOwner false)) s
+unfolding seqid_owner
+release_refused s caller party file args verdict status is stops =
+    subst (λ who. Applied s (Asked (record { caller = who; file = file; deed = deed.ReleaseLockOwner args }) verdict) (reply_with status (told.ReleaseLockOwner false)) s) (sym is)
+    (applied_refused s (record { caller = Some party; file = file; deed = deed.ReleaseLockOwner args }) verdict status refl refl stops)
+
+released : (s : Seen) (party : Party) (file : ℕ) (args : ReleaseLockOwnerArgs) (verdict : Verdict) → None ≡ first (release_checks s (Some party) args verdict)
+    → Applied s (Asked (record { caller = Some party; file = file; deed = deed.ReleaseLockOwner args }) verdict) (reply_with Nfs4Ok (told.ReleaseLockOwner true))
+    (after_release (lock_owner party args.owner) s)
+unfolding after_words tree_after opens_after owners_after closed_after after_release seqid_owner started_by look
+released s party file args verdict goes =
+    applied_starting s (record { caller = Some party; file = file; deed = deed.ReleaseLockOwner args }) verdict _ (Gone (lock_owner party args.owner)) _ refl goes refl refl refl
+
+pub release_goes : (s : Seen) (caller : Option Party) (party : Party) (file : ℕ) (args : ReleaseLockOwnerArgs) (verdict : Verdict) (owner : Owner) → caller ≡ Some party
+    → owner ≡ lock_owner party args.owner → None ≡ first (release_checks s (Some party) args verdict)
+    → Applied s (Asked (record { caller = caller; file = file; deed = deed.ReleaseLockOwner args }) verdict) (reply_with Nfs4Ok (told.ReleaseLockOwner true)) (after_release owner s)
+release_goes s caller party file args verdict owner is its goes =
+    subst (λ who. Applied s (Asked (record { caller = who; file = file; deed = deed.ReleaseLockOwner args }) verdict) (reply_with Nfs4Ok (told.ReleaseLockOwner true)) (after_release owner s)) (sym is)
+    (subst (λ o. Applied s (Asked (record { caller = Some party; file = file; deed = deed.ReleaseLockOwner args }) verdict) (reply_with Nfs4Ok (told.ReleaseLockOwner true)) (after_release o s)) (sym its)
+    (released s party file args verdict goes))

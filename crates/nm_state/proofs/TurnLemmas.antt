@@ -1,7 +1,6 @@
 -- Whose turn it is, and what an operation leaves whose turn it was.
 use Rattle.std.proofs.Common.{◌≡◌, ℕ, Bool, true, false, cond, List, Option, Some, None, refl, ap, sym, subst, ◌∙◌}
 use Rattle.std.specs.Prelude.{◌==◌, ◌||◌, not, nat_le, option_map}
-use Rattle.std.specs.Bool.{Decides}
 use Rattle.std.specs.Option.{option_or}
 use Rattle.nm_rules.specs.Answer.{answer_to, checks, is_denial, ok_value, refused_value, refusal_value, reply_by, reply_with}
 use Rattle.nm_rules.specs.Checks.{Checks, Stop, behind_seqid, first, refusal}
@@ -578,12 +577,12 @@ confirmed_before s owner locker call r none = by_status (advances r.status)
     row = noted_row (owner_at owner s.owners) owner (seqid_of call.deed) call r
 
     same_as : (b : Bool) → b ≡ false → (c d : Bool) → (c || cond b d false) ≡ c
-    same_as b no true d = refl
-    same_as b no false d = rw no refl
+    same_as b isnt true d = refl
+    same_as b isnt false d = rw isnt refl
 
     by_owner : (b : Bool) → same_owner locker owner ≡ b → is_confirmed (cond b (Some row) (owner_at locker s.owners)) ≡ is_confirmed (owner_at locker s.owners)
     by_owner true same =
-        let its : locker ≡ owner = subst (λ b. Decides b (locker ≡ owner)) same (same_owner-Decides locker owner) in
+        let its : locker ≡ owner = (same_owner-Decides locker owner).0 same in
         same_as (confirms call.deed) none (is_confirmed (owner_at owner s.owners)) (is_done r.status)
         ∙ ap (λ o. is_confirmed (owner_at o s.owners)) (sym its)
     by_owner false same = refl

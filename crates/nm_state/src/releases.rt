@@ -30,7 +30,8 @@ impl Tables {
         requires { owner.now ≡ lock_owner party args.now.owner }
         ensures { refusal result ≡ first (release_checks self.now (Some party) args.now verdict) }
     {
-        let _ = (party, args);
+        let _ = party;
+        let _ = args;
         if let Some(status) = lease_refusal(verdict) {
             return Some(status);
         }

@@ -11,6 +11,9 @@ returns-in_ok-commit_answer-in-Commit c = applied_as c.args.self.now c.args.call
 pub returns-in_ok-getattr_answer-in-GetAttr : goal.returns-in_ok-getattr_answer-in-GetAttr
 returns-in_ok-getattr_answer-in-GetAttr c = applied_as c.args.self.now c.args.call.now _ c.args.verdict _ refl c.in-GetAttr.is c.in_ok-getattr_answer-in-GetAttr.ensures
 
+pub returns-in_ok-test_answer-in-LockTest : goal.returns-in_ok-test_answer-in-LockTest
+returns-in_ok-test_answer-in-LockTest c = applied_as c.args.self.now c.args.call.now _ c.args.verdict _ refl c.in-LockTest.is c.in_ok-test_answer-in-LockTest.ensures
+
 pub returns-in_ok-lookup_answer-in-Lookup : goal.returns-in_ok-lookup_answer-in-Lookup
 returns-in_ok-lookup_answer-in-Lookup c = applied_as c.args.self.now c.args.call.now _ c.args.verdict _ refl c.in-Lookup.is c.in_ok-lookup_answer-in-Lookup.ensures
 
