@@ -262,9 +262,9 @@ unfolding new_limit
 new_goes s file args new verdict free =
     let goes = let_by s (new_front s file args new.stateid verdict) (in_the_way s (s.last + 1) file args.kind args.offset args.length) (new_limit s (open_named s new.stateid) new.owner file args) free in
     record {
-    range = new_range s file args new.stateid verdict (sym goes.front);
-    free = goes.way;
-    room = below (refuse_if-none (nat_le (2 ^ 63) s.last) Resource (or_none (refuse_if (nat_le (2 ^ 63) s.last) Resource) _ goes.limit).0);
+      range = new_range s file args new.stateid verdict (sym goes.front);
+      free = goes.way;
+      room = below (refuse_if-none (nat_le (2 ^ 63) s.last) Resource (or_none (refuse_if (nat_le (2 ^ 63) s.last) Resource) _ goes.limit).0);
     }
   where
     below : nat_le (2 ^ 63) s.last ≡ false → s.last < 2 ^ 63
@@ -294,11 +294,11 @@ pub new_went : (s : Seen) (call : Call) (args : LockArgs) (new : Newcomer) (verd
 new_went s call args new verdict comes free =
     let goes = let_by s (new_front s call.file args new.stateid verdict) (in_the_way s (s.last + 1) call.file args.kind args.offset args.length) (new_limit s (open_named s new.stateid) new.owner call.file args) free in
     let nothing : None ≡ behind_seqid (lock_checks s (Some new.owner.instance) call.file (record args { locker = locker_of new }) (locker_of new) verdict) =
-        sym (ap (λ f. option_or f (option_or (denied_stop (in_the_way s (s.last + 1) call.file args.kind args.offset args.length)) (new_limit s (open_named s new.stateid) new.owner call.file args))) goes.front
-        ∙ ap (λ w. option_or (denied_stop w) (new_limit s (open_named s new.stateid) new.owner call.file args)) goes.way ∙ goes.limit)
-        ∙ ap (λ owner. option_or (new_front s call.file args new.stateid verdict)
-        (option_or (denied_stop (in_the_way s (s.last + 1) call.file args.kind args.offset args.length)) (new_limit s (open_named s new.stateid) owner call.file args))) comes.owner
-        ∙ new_behind s call args new verdict in
+    sym (ap (λ f. option_or f (option_or (denied_stop (in_the_way s (s.last + 1) call.file args.kind args.offset args.length)) (new_limit s (open_named s new.stateid) new.owner call.file args))) goes.front
+    ∙ ap (λ w. option_or (denied_stop w) (new_limit s (open_named s new.stateid) new.owner call.file args)) goes.way ∙ goes.limit)
+    ∙ ap (λ owner. option_or (new_front s call.file args new.stateid verdict)
+    (option_or (denied_stop (in_the_way s (s.last + 1) call.file args.kind args.offset args.length)) (new_limit s (open_named s new.stateid) owner call.file args))) comes.owner
+    ∙ new_behind s call args new verdict in
     let same : named new ≡ new = λ i. record new { owner = sym comes.owner i } in
     subst (λ q. Went s q verdict (new_value s) None (start_word true s new.owner new.lock_seqid q (new_value s)) (after_new_lock s call.file args new)) (comes_is call args new comes)
     (subst (λ (n : Newcomer). Went s (asked_by call args new) verdict (new_value s) None (start_word true s n.owner new.lock_seqid (asked_by call args new) (new_value s)) (after_new_lock s call.file args n)) same
@@ -361,8 +361,8 @@ changed_of s file stateid access id live value = by_row (lock_named s stateid) r
         by_file true same free =
             let here : row.file ≡ file = grind (arith, nat_tests) in
             record {
-            on = subst (λ o. IsOn file o) (sym its.found ∙ ap (λ k. lock_at k s.locks) it) here;
-            counter = its.counter ∙ it;
+              on = subst (λ o. IsOn file o) (sym its.found ∙ ap (λ k. lock_at k s.locks) it) here;
+              counter = its.counter ∙ it;
             }
         by_file false same free = cc
 
@@ -444,9 +444,9 @@ known_goes s file args stateid verdict id free value =
     let goes = let_by s (known_front s file args stateid verdict) (in_the_way s (counter_of stateid) file args.kind args.offset args.length) _ free in
     let changed = changed_of s file stateid (access_for (kind_of args.kind)) id (known_live s file args stateid verdict goes.front) value in
     record {
-    on = changed.on;
-    range = known_range s file args stateid verdict (sym goes.front);
-    free = ap (λ k. in_the_way s k file args.kind args.offset args.length) (sym changed.counter) ∙ goes.way;
+      on = changed.on;
+      range = known_range s file args stateid verdict (sym goes.front);
+      free = ap (λ k. in_the_way s k file args.kind args.offset args.length) (sym changed.counter) ∙ goes.way;
     }
 
 known_went_of : (s : Seen) (caller : Option Party) (file : ℕ) (args : LockArgs) (stateid : StateRef) (seqid : ℕ) (verdict : Verdict) (id : StateId)
@@ -478,7 +478,7 @@ pub known_went : (s : Seen) (call : Call) (args : LockArgs) (stateid : StateRef)
     (after_locks (claim_if (option_map renewed_lock (lock_at id.counter s.locks)) (kind_of args.kind) args.offset (last_of args.offset args.length)) s)
 known_went s call args stateid seqid verdict id locks free value =
     let goes = let_by s (known_front s call.file args stateid verdict) (in_the_way s (counter_of stateid) call.file args.kind args.offset args.length)
-        (rows_stop (rows_with_known s call.file (ranges_with s (counter_of stateid) call.file args.kind args.offset args.length))) free in
+    (rows_stop (rows_with_known s call.file (ranges_with s (counter_of stateid) call.file args.kind args.offset args.length))) free in
     subst (λ q. Went s q verdict (reply_with Nfs4Ok (told.Lock (Some (Locked id)))) None Stays
     (after_locks (claim_if (option_map renewed_lock (lock_at id.counter s.locks)) (kind_of args.kind) args.offset (last_of args.offset args.length)) s)) (known_is call args stateid seqid locks)
     (known_went_of s call.caller call.file args stateid seqid verdict id

@@ -193,10 +193,10 @@ place_found its rows at d found = by_test (nat_lt (position_or_len (has_file its
         let place : position_or_len (has_file its) rows ≡ at = cc in
         let less : position_or_len (has_file its) rows < length rows = grind (arith, nat_tests) in
         subst (λ k. IsPlace its rows k d) place (record {
-        within = less;
-        ranges = (at_place its rows d less).0;
-        file = (at_place its rows d less).1;
-        put = λ new. put_at its new rows less;
+          within = less;
+          ranges = (at_place its rows d less).0;
+          file = (at_place its rows d less).1;
+          put = λ new. put_at its new rows less;
         })
     by_test false past same = cc
 
@@ -249,8 +249,8 @@ pub claim_there : (file : ℕ) (rows : List FileLocks) (at : ℕ) (d row : FileL
 claim_there file rows at d row h found read is =
     let place = place_found file rows at d found in
     let its : row ≡ record { file = file; ranges = set_to h.owner h.kind h.first h.last (ranges_on file rows) } =
-        is ∙ ap (λ (x : FileLocks). record { file = x.file; ranges = set_to h.owner h.kind h.first h.last x.ranges }) read
-        ∙ λ i. record { file = sym place.file i; ranges = set_to h.owner h.kind h.first h.last (sym place.ranges i) } in
+    is ∙ ap (λ (x : FileLocks). record { file = x.file; ranges = set_to h.owner h.kind h.first h.last x.ranges }) read
+    ∙ λ i. record { file = sym place.file i; ranges = set_to h.owner h.kind h.first h.last (sym place.ranges i) } in
     ap (λ r. set rows at r) its ∙ place.put _ ∙ set_some h.owner h.kind h.first h.last (ranges_on file rows) file rows
 
 pub claim_free : (file : ℕ) (rows : List FileLocks) (at : ℕ) (d : FileLocks) (h : Held) → position (has_file file) rows ≡ Some at → d ≡ get_or rows at d
@@ -265,7 +265,7 @@ pub claim_first : (file : ℕ) (rows : List FileLocks) (row : FileLocks) (h : He
 claim_first file rows row h none is =
     let nothing = place_none file rows none in
     let its : row ≡ record { file = file; ranges = set_to h.owner h.kind h.first h.last (ranges_on file rows) } =
-        is ∙ ap (λ rs. record { file = file; ranges = set_to h.owner h.kind h.first h.last rs }) (sym nothing.ranges) in
+    is ∙ ap (λ rs. record { file = file; ranges = set_to h.owner h.kind h.first h.last rs }) (sym nothing.ranges) in
     ap (λ r. rows ++ r ∷ []) its ∙ nothing.put _ ∙ set_some h.owner h.kind h.first h.last (ranges_on file rows) file rows
 
 -- a stateid gives up a range
@@ -302,8 +302,8 @@ pub clear_part : (file owner first last : ℕ) (rows : List FileLocks) (at : ℕ
 clear_part file owner first last rows at counted_as d row found counts read some is =
     let place = place_found file rows at d found in
     let its : row ≡ record { file = file; ranges = cleared owner first last (ranges_on file rows) } =
-        is ∙ ap (λ (x : FileLocks). record { file = x.file; ranges = cleared owner first last x.ranges }) read
-        ∙ λ i. record { file = sym place.file i; ranges = cleared owner first last (sym place.ranges i) } in
+    is ∙ ap (λ (x : FileLocks). record { file = x.file; ranges = cleared owner first last x.ranges }) read
+    ∙ λ i. record { file = sym place.file i; ranges = cleared owner first last (sym place.ranges i) } in
     ap (λ r. set rows at r) its ∙ place.put _
     ∙ put_some file (cleared owner first last (ranges_on file rows)) rows
     (ap (λ rs. length (cleared owner first last rs) == 0) (place_found file rows at counted_as found).ranges

@@ -503,10 +503,10 @@ went_refused_as s call verdict status stops =
     let r : Reply = reply_by s call (Some (Refuse status)) in
     let says = refusal_says s call r status in
     record {
-    answer = ap (λ x. reply_by s call (refusal x)) stops;
-    tables = sym (ap (λ w. after_words s (with_owners w Stays Stays)) (says.changes call.caller call.file) ∙ same-after s);
-    closed = says.closes;
-    started = says.starts;
+      answer = ap (λ x. reply_by s call (refusal x)) stops;
+      tables = sym (ap (λ w. after_words s (with_owners w Stays Stays)) (says.changes call.caller call.file) ∙ same-after s);
+      closed = says.closes;
+      started = says.starts;
     }
 
 either_way : {A : Type 0} (b : Bool) (x y : A) → x ≡ y → cond b x y ≡ x
@@ -525,8 +525,8 @@ words_behind s call (Some status) =
     let r : Reply = reply_by s call (Some (Refuse status)) in
     let says = refusal_says s call r status in
     record {
-    changes = either_way (is_done status) _ no_words (says.changes call.caller call.file);
-    starts = either_way (is_done status) _ Stays (sym says.starts);
+      changes = either_way (is_done status) _ no_words (says.changes call.caller call.file);
+      starts = either_way (is_done status) _ Stays (sym says.starts);
     }
 
 applied_noted : (s : Seen) (call : Call) (verdict : Verdict) (owner : Owner) (r : Reply) (closed : Option OpenRow) (start : OwnerWord) (mid : Seen)
@@ -607,7 +607,7 @@ started_as s call args new verdict owner r starts mid noted_so last comes turn w
     let kept : note_word mid owner call r None ≡ note_word s owner call r None = ap (λ os. word_by os) owners in
     let its : noted_so ≡ after_noting (note_word s owner call r None) mid = noted_is ∙ ap (λ w. after_noting w mid) kept in
     let start : start_word starts noted_so new.owner new.lock_seqid call r ≡ start_word starts s new.owner new.lock_seqid call r =
-        ap (λ (x : Seen). start_word starts x new.owner new.lock_seqid call r) its ∙ ap (λ os. start_by starts (owners_after (note_word s owner call r None) os)) owners ∙ same_start starts in
+    ap (λ (x : Seen). start_word starts x new.owner new.lock_seqid call r) its ∙ ap (λ os. start_by starts (owners_after (note_word s owner call r None) os)) owners ∙ same_start starts in
     subst (λ x. Applied s (Asked call verdict) r x) (sym (last_is ∙ ap (λ w. after_noting w noted_so) start ∙ ap (λ x. after_noting (start_word starts s new.owner new.lock_seqid call r) x) its))
     (applied_noted s call verdict owner r None (start_word starts s new.owner new.lock_seqid call r) mid turn went)
   where

@@ -243,13 +243,7 @@ pub fn taken_with_set(rows: &[FileRanges], file: u64, new: &Held) -> usize
 
 /// How many ranges are held once a stateid has given up a range of a file.
 #[tactic(auto, using(crate::proofs::RangeLemmas::taken_put))]
-pub fn taken_with_clear(
-    rows: &[FileRanges],
-    file: u64,
-    owner: u64,
-    first: u64,
-    last: u64,
-) -> usize
+pub fn taken_with_clear(rows: &[FileRanges], file: u64, owner: u64, first: u64, last: u64) -> usize
     ensures { result ≡ counted (ranges_taken (put_ranges file (cleared owner first last (ranges_on file rows.now)) rows.now)) }
 {
     let left = count_cleared(ranges_on(rows, file), owner, first, last);

@@ -12,9 +12,7 @@ use crate::checks::{lease_refusal, refuse_if};
 use crate::lock_asks::{lock_owner, range_stop};
 use crate::lock_rows;
 use crate::tables::Tables;
-use nm_rules::{
-    Held, Instance, LockTestArgs, Memory, OpStatus, Owner, Reply, ReplyValue, Verdict,
-};
+use nm_rules::{Held, Instance, LockTestArgs, Memory, OpStatus, Owner, Reply, ReplyValue, Verdict};
 
 impl Tables {
     // The first class before the conflict that refuses it.

@@ -92,8 +92,9 @@ impl Tables {
         requires { is_no_range args.now.offset args.now.length ≡ false }
         ensures { result ≡ new_limit self.now (open_named self.now new.now.stateid) new.now.owner file args.now }
     {
-        refuse_if(LAST <= self.shares.last(), OpStatus::Resource)
-            .or(rows_stop(self.rows_with_new(file, args, new)))
+        refuse_if(LAST <= self.shares.last(), OpStatus::Resource).or(rows_stop(self.rows_with_new(
+            file, args, new,
+        )))
     }
 
     // What refuses it, once it is its turn.
@@ -224,12 +225,7 @@ impl Tables {
 
     // Whether it is its turn.
     #[tactic(auto, unfolding(crate::specs::Turns::turn_to_lock))]
-    fn turn_to_lock(
-        &self,
-        call: &Call,
-        args: &LockArgs,
-        new: &Newcomer,
-    ) -> Result<Turn, Memory>
+    fn turn_to_lock(&self, call: &Call, args: &LockArgs, new: &Newcomer) -> Result<Turn, Memory>
         requires { Comes call.now args.now new.now }
         ensures { IfOk result (λ turn. turn ≡ turn_to_lock self.now new.now.owner.instance call.now.file args.now new.now) }
     {

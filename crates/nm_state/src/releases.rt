@@ -9,10 +9,9 @@ ghost use Rattle.nm_rules.specs.declared.calls.Event.TheVariants.{Asked as Asked
 ghost use Rattle.nm_state.specs.Opening.{Applied, after_release};
 
 use crate::checks::{lease_refusal, refuse_if};
-use crate::closed;
 use crate::lock_asks::lock_owner;
-use crate::lock_rows;
 use crate::tables::Tables;
+use crate::{closed, lock_rows};
 use nm_rules::{
     Instance, Memory, OpStatus, Owner, ReleaseLockOwnerArgs, Reply, ReplyValue, Verdict,
 };
@@ -61,10 +60,7 @@ impl Tables {
     {
         let _ = file;
         let Some(party) = caller else {
-            return Ok(self.reply(
-                OpStatus::StaleClientId,
-                ReplyValue::ReleaseLockOwner(false),
-            ));
+            return Ok(self.reply(OpStatus::StaleClientId, ReplyValue::ReleaseLockOwner(false)));
         };
         let owner = lock_owner(party, &args.owner)?;
         if let Some(status) = self.release_stop(party, &owner, args, verdict) {
@@ -85,10 +81,7 @@ impl Tables {
     {
         let _ = file;
         let Some(party) = caller else {
-            return Ok(self.reply(
-                OpStatus::StaleClientId,
-                ReplyValue::ReleaseLockOwner(false),
-            ));
+            return Ok(self.reply(OpStatus::StaleClientId, ReplyValue::ReleaseLockOwner(false)));
         };
         let owner = lock_owner(party, &args.owner)?;
         if let Some(status) = self.release_stop(party, &owner, args, verdict) {

@@ -40,7 +40,8 @@ impl Tables {
             StateRef::Zeros => None,
             StateRef::Ones => None,
             StateRef::Named(_) => {
-                let unknown = self.resolved(stateid).is_none() && self.lock_named(stateid).is_none();
+                let unknown = self.resolved(stateid).is_none()
+                    && self.lock_named(stateid).is_none();
                 refuse_if(unknown, OpStatus::BadStateId)
             }
         }

@@ -120,11 +120,7 @@ fn put(rows: &mut Vec<HeldRow>, row: HeldRow) -> Result<(), Memory>
 }
 
 // The opens as they are shown.
-fn show_opens(
-    alloc: Global,
-    files: &[FileRow],
-    rows: &[OpenRow],
-) -> Result<Vec<HeldRow>, Memory>
+fn show_opens(alloc: Global, files: &[FileRow], rows: &[OpenRow]) -> Result<Vec<HeldRow>, Memory>
     ensures { IfOk result (λ held. held.items ≡ map (held_row files.now) rows.now) }
 {
     let mut held = Vec::new(alloc);

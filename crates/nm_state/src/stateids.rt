@@ -106,13 +106,7 @@ fn mode_refusal(access: u32, its: u32) -> Option<OpStatus>
 // What the stateid of a lock owner says: it has to be of the current file and as it was told last, and its open has to have this
 // access.
 #[tactic(auto, unfolding(nm_rules::specs::Stateids::lock_stop))]
-fn lock_stop(
-    file: u64,
-    stateid: StateRef,
-    access: u32,
-    its: u32,
-    row: &LockRow,
-) -> Option<OpStatus>
+fn lock_stop(file: u64, stateid: StateRef, access: u32, its: u32, row: &LockRow) -> Option<OpStatus>
     ensures { result ≡ lock_stop file stateid access its row.now }
 {
     if row.file != file {

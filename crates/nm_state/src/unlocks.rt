@@ -20,9 +20,7 @@ use crate::lock_rows;
 use crate::locks::rows_stop;
 use crate::seqids::Turn;
 use crate::tables::Tables;
-use nm_rules::{
-    Call, LockRow, Memory, OpStatus, Reply, ReplyValue, UnlockArgs, Verdict,
-};
+use nm_rules::{Call, LockRow, Memory, OpStatus, Reply, ReplyValue, UnlockArgs, Verdict};
 
 impl Tables {
     // The rows that it leaves.
