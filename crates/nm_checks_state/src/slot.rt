@@ -57,12 +57,12 @@ fn accept(rt: &impl Abort, slot: &mut Slot, image: &Image) -> Result<Accept, Mem
     slot.accept(image)
 }
 
-// Hands what is on offer to another slot.
-fn offer(rt: &impl Abort, from: &Slot, to: &mut Slot) -> Result<Accept, Memory> {
+// Hands what is on offer to another slot. `None` where nothing is.
+fn offer(rt: &impl Abort, from: &Slot, to: &mut Slot) -> Result<Option<Accept>, Memory> {
     assert!(rt; from.fs().number() == 0);
     match from.image()? {
-        Some(image) => accept(rt, to, &image),
-        None => panic!(rt; "it is frozen"),
+        Some(image) => Ok(Some(accept(rt, to, &image)?)),
+        None => Ok(None),
     }
 }
 
@@ -320,11 +320,11 @@ fn the_door_in_each_phase(rt: HostRuntime) -> Result<(), Fail> {
 }
 
 // The pass that is given where one may enter.
-fn enter(rt: &impl Abort, slot: &mut Slot) -> FsPass {
+fn enter(slot: &mut Slot) -> Result<FsPass, Fail> {
     match slot.enter() {
-        Enter::Entered(pass) => pass,
+        Enter::Entered(pass) => Ok(pass),
         Enter::Full { .. } | Enter::Delay | Enter::Moved { .. } | Enter::Unknown => {
-            panic!(rt; "one may enter")
+            Err("one may enter".into())
         }
     }
 }
@@ -334,8 +334,8 @@ fn a_move_waits_for_the_passes_that_are_out(rt: HostRuntime) -> Result<(), Fail>
     let alloc = rt.alloc();
     let (here, dest) = (server(0)?, server(2)?);
     let mut slot = slot_in(&rt, alloc, Made::Serving)?;
-    let first = enter(&rt, &mut slot);
-    let second = enter(&rt, &mut slot);
+    let first = enter(&mut slot)?;
+    let second = enter(&mut slot)?;
     assert_eq!(rt; slot.begin(here, here), Begin::Same);
     assert_eq!(rt; slot.begin(here, dest), Begin::Begun(MoveNum::new(1)));
     assert_eq!(rt; slot.freeze(), Freeze::Waiting { passes: 2 });
@@ -417,13 +417,13 @@ fn done(place: u64) -> Result<Called, Memory> {
 // A pass of epoch 0, which another slot of X gave.
 fn first_pass(rt: &impl Abort, alloc: Global) -> Result<FsPass, Fail> {
     let mut slot = slot_in(rt, alloc, Made::Serving)?;
-    Ok(enter(rt, &mut slot))
+    enter(&mut slot)
 }
 
 // A pass of epoch 1, which another slot of X gave.
 fn second_pass(rt: &impl Abort, alloc: Global) -> Result<FsPass, Fail> {
     let mut slot = moved_here(rt, alloc, 1, 1, 0)?;
-    Ok(enter(rt, &mut slot))
+    enter(&mut slot)
 }
 
 // Opens `f` for a client, by its owner with that seqid.
@@ -478,7 +478,7 @@ fn a_commit_lists_who_holds_something(rt: HostRuntime) -> Result<(), Fail> {
             assert!(rt; holders[1].is_same(&b));
             Ok(())
         }
-        Commit::Again | Commit::Dead { .. } => panic!(rt; "it is handed over"),
+        Commit::Again | Commit::Dead { .. } => Err("it is handed over".into()),
     }
 }
 
@@ -495,8 +495,8 @@ fn offered(rt: &impl Abort, alloc: Global) -> Result<Slot, Fail> {
     let source = opened_and_frozen(rt, alloc)?;
     let mut dest = slot_in(rt, alloc, Made::Never)?;
     assert_eq!(rt; rows(&dest), Ok(None));
-    assert_eq!(rt; offer(rt, &source, &mut dest), Ok(Accept::Held));
-    assert_eq!(rt; offer(rt, &source, &mut dest), Ok(Accept::Held));
+    assert_eq!(rt; offer(rt, &source, &mut dest), Ok(Some(Accept::Held)));
+    assert_eq!(rt; offer(rt, &source, &mut dest), Ok(Some(Accept::Held)));
     assert_eq!(rt; rows(&dest), Ok(Some(2)));
     Ok(dest)
 }

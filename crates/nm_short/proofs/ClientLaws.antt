@@ -47,21 +47,21 @@ enter_outside : (t : FileTables) (s : ℕ) → IsKeptOutside t s (Entering (ente
 unfolding slot_after
 enter_outside t s past = ap (λ a. slot_after (no_part t.fs) (Entering a)) (ap enter_answer (slot_outside t s past) ∙ nobody_enters t.fs)
 
-entered_stands : (n : ℕ) (f : FileNow) (t : FileTables) (s : ℕ) (a : Enter) → Stands n f t → a ≡ enter_answer (at_server f s)
+pub entered_stands : (n : ℕ) (f : FileNow) (t : FileTables) (s : ℕ) (a : Enter) → Stands n f t → a ≡ enter_answer (at_server f s)
     → Stands n (did f s (Entering a)) (stepped t s (Entering a))
 entered_stands n f t s a stands e =
     plain_stands n f t s (Entering a) stands (record { answered = e; delivered = tt })
     (subst (λ b. IsKeptOutside t s (Entering b)) (ap enter_answer (stands.slots s) ∙ sym e) (enter_outside t s)) tt refl
 
 -- only a server of the script lets anybody in
-entered_inside : (n : ℕ) (f : FileNow) (t : FileTables) (s : ℕ) → Stands n f t → (a : Enter) → a ≡ enter_answer (at_server f s)
+pub entered_inside : (n : ℕ) (f : FileNow) (t : FileTables) (s : ℕ) → Stands n f t → (a : Enter) → a ≡ enter_answer (at_server f s)
     → a ≢ enter.Unknown → s < n
 entered_inside n f t s stands a e known = ⊎_elim
     (λ (below : s < n). below)
     (λ (past : n ≤ s). absurd (known (e ∙ ap enter_answer (sym (stands.slots s) ∙ slot_outside t s (omega (arith, stands.count, past))) ∙ nobody_enters t.fs)))
     (cases_lt s n)
 
-pass_out : (f : FileNow) (s epoch fs : ℕ) → is_out epoch (passes_now (did f s (Entering (enter.Entered (record { fs = fs; epoch = epoch })))).moments s) ≡ true
+pub pass_out : (f : FileNow) (s epoch fs : ℕ) → is_out epoch (passes_now (did f s (Entering (enter.Entered (record { fs = fs; epoch = epoch })))).moments s) ≡ true
 unfolding passes_now
 pass_out f s epoch fs = rw (eq-eqb s s refl, eq-eqb epoch epoch refl) refl
 
@@ -104,7 +104,7 @@ knock_same n further further' f t s enter.Delay same stands e =
 knock_same n further further' f t s enter.Unknown same stands e =
     record { file = entered_stands n f t s enter.Unknown stands e; server = refl; door = refl; inside = tt }
 
-knocks_same : (k n : ℕ) (f : FileNow) (t : FileTables) (s : ℕ) → Stands n f t → IsKnocked n (knocks k f s) (knocks_to k t s)
+pub knocks_same : (k n : ℕ) (f : FileNow) (t : FileTables) (s : ℕ) → Stands n f t → IsKnocked n (knocks k f s) (knocks_to k t s)
 unfolding knocks knocks_to
 knocks_same zero n f t s stands = record { file = stands; server = refl; door = refl; inside = tt }
 knocks_same (suc k) n f t s stands =
@@ -113,7 +113,7 @@ knocks_same (suc k) n f t s stands =
 
 -- ---- the call
 
-apply_out : (f : FileNow) (s epoch : ℕ) (call : Call) (a : Answer) → passes_now (did f s (Applying epoch call Pass a)).moments s ≡ passes_now f.moments s
+pub apply_out : (f : FileNow) (s epoch : ℕ) (call : Call) (a : Answer) → passes_now (did f s (Applying epoch call Pass a)).moments s ≡ passes_now f.moments s
 unfolding passes_now
 apply_out f s epoch call a = rw (eq-eqb s s refl) refl
 
@@ -210,7 +210,7 @@ calls_same : (n : ℕ) (f : FileNow) (t : FileTables) (s epoch client : ℕ) (ro
 unfolding calls_at calls_to
 calls_same n f t s epoch client row act call known stands below out = calls_by requests_limit n f t s epoch client row act call known stands below out
 
-door_same : (n : ℕ) (f : FileNow) (t : FileTables) (s : ℕ) (door : Option Enter) (client : ℕ) (row : ClientRow) (act : Action) (call : Call) (known : Known) → Stands n f t → IsIn n f s door
+pub door_same : (n : ℕ) (f : FileNow) (t : FileTables) (s : ℕ) (door : Option Enter) (client : ℕ) (row : ClientRow) (act : Action) (call : Call) (known : Known) → Stands n f t → IsIn n f s door
     → IsTried n (at_door f s door client row act call known) (door_to t s door client row act call known)
 unfolding at_door door_to
 door_same n f t s None client row act call known stands inside = record { file = stands; known = refl; told = refl }

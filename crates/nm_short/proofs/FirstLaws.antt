@@ -15,7 +15,8 @@ use Rattle.nm_slot.specs.Phases.{phase_now}
 use Rattle.nm_short.specs.Known.{knows_nothing}
 use Rattle.nm_short.specs.ShortRun.{FileNow, at_server, files_from}
 use Rattle.nm_short.specs.Tables.{FileTables, slot_in, no_part, first_slot, first_slots, tables_at_first, tables_of_head}
-use Rattle.nm_short.proofs.LineLaws.{AllStand, RunStands}
+use Rattle.nm_short.proofs.LineLaws.{RunStands}
+use Rattle.nm_short.proofs.Several.{AllStand}
 use Rattle.nm_short.proofs.Standing.{Stands}
 
 -- before any step

@@ -23,13 +23,14 @@ use Rattle.nm_slot.specs.declared.answers.Answer.{Answer}
 use Rattle.nm_slot.specs.Answers.{enter_answer, apply_answer, begin_answer, freeze_answer, accept_answer}
 use Rattle.nm_slot.specs.History.{Home}
 use Rattle.nm_slot.specs.Moves.{Sent, move_now, latest_offer, latest_handed}
-use Rattle.nm_slot.specs.SlotNow.SlotStep.{Applying, Leaving, Beginning, Freezing, Accepting}
+use Rattle.nm_slot.specs.SlotNow.SlotStep.{Entering, Applying, Leaving, Beginning, Freezing, Accepting}
 use Rattle.nm_short.specs.Known.{Known, learned, call_of, hand_of, place_of, sent_to}
 use Rattle.nm_short.specs.RunFacts.{home_of, run_after}
-use Rattle.nm_short.specs.Requests.{reply_of, goes_on_with, names_of, requests_limit}
-use Rattle.nm_short.specs.ShortRun.{FileNow, Went, Asked, Knocked, RunNow, Order, at_server, did, asks, after_asking, source, after_begin, begins, after_freeze, freezes, abandons, after_accept, delivers_offer, commits, delivers_handed, settles, and_then, shifts, knocks, at_door, calls_at, tries, ran_call, acts, starts, goes_on, ran_do, ran_finish, ordered, ran_order, run_line, files_from}
+use Rattle.nm_short.specs.Requests.{reply_of, goes_on_with, names_of, requests_limit, released_by, let_in}
+use Rattle.nm_short.specs.ShortRun.{FileNow, Went, Asked, Knocked, RunNow, Order, at_server, did, asks, after_asking, source, after_begin, begins, after_freeze, freezes, abandons, after_accept, delivers_offer, commits, delivers_handed, settles, and_then, shifts, knocks, at_door, calls_at, tries, frees_within, frees_after, frees, frees_all, left_by, frees_at, turned_away, released_at, releases, ran_found, ran_call, acts, starts, goes_on, ran_do, ran_finish, ordered, ran_order, run_line, files_from}
 use Rattle.nm_short.specs.ShortRun.Order.{ToMove, ToFreeze, ToAbandon, ToCommit, ToSettle, ToShift, ToShow}
 use Rattle.nm_short.proofs.ClientLaws.{ask_of, knock_of}
+use Rattle.nm_short.proofs.ReleaseLaws.{all_keep}
 
 -- ---- an operator's line
 
@@ -190,13 +191,81 @@ homes_set (x ∷ xs) zero f g at same =
     ap (λ h. h ∷ map (λ (x : FileNow). x.home) xs) (same ∙ ap (λ (y : FileNow). y.home) (sym its))
 homes_set (x ∷ xs) (suc i) f g at same = ap (λ hs. x.home ∷ hs) (homes_set xs i f g at same)
 
+-- ---- a release
+
+after_home : (f : FileNow) (s : ℕ) (call : Call) (a : Enter) → (frees_after f s call a).file.home ≡ f.home
+unfolding frees_after frees_within
+after_home f s call (enter.Entered pass) = refl
+after_home f s call (enter.Moved dest) = refl
+after_home f s call (enter.Full passes) = refl
+after_home f s call enter.Delay = refl
+after_home f s call enter.Unknown = refl
+
+frees_home : (f : FileNow) (s : ℕ) (call : Call) → (frees f s call).file.home ≡ f.home
+unfolding frees
+frees_home f s call = after_home (did f s (Entering (enter_answer (at_server f s)))) s call (enter_answer (at_server f s))
+
+left_homes : (fs : List FileNow) (i s epoch : ℕ) (g : Option FileNow) → slice_get fs i ≡ g
+    → map (λ (x : FileNow). x.home) (left_by fs i s epoch g) ≡ map (λ (x : FileNow). x.home) fs
+unfolding left_by
+left_homes fs i s epoch None at = refl
+left_homes fs i s epoch (Some g) at = homes_set fs i g (did g s (Leaving epoch)) at refl
+
+frees_homes : (r : RunNow) (client : ℕ) (row : ClientRow) (act : Action) (owner : List ℕ) (call : Call) (s epoch : ℕ)
+    → homes (frees_at r client row act owner call s epoch).run ≡ homes r
+unfolding frees_at
+frees_homes r client row act owner call s epoch =
+    left_homes (frees_all r.files s call).files (fs_of act) s epoch (slice_get (frees_all r.files s call).files (fs_of act)) refl
+    ∙ all_keep (λ (x : FileNow). x.home) s call r.files (λ f. frees_home f s call)
+
+turned_homes : (r : RunNow) (client : ℕ) (row : ClientRow) (act : Action) (call : Call) (s : ℕ) (door : Option Enter) (f : Option FileNow) → slice_get r.files (fs_of act) ≡ f
+    → homes (turned_away r client row act call s door f).run ≡ homes r
+unfolding turned_away
+turned_homes r client row act call s door None at = refl
+turned_homes r client row act call s door (Some f) at =
+    homes_set r.files (fs_of act) f (at_door f s door client row act call r.known).file at (door_home f s door client row act call r.known)
+
+released_homes : (r : RunNow) (client : ℕ) (row : ClientRow) (act : Action) (owner : List ℕ) (call : Call) (s : ℕ) (door : Option Enter) (its : Option ℕ)
+    → homes (released_at r client row act owner call s door its).run ≡ homes r
+unfolding released_at
+released_homes r client row act owner call s door None = turned_homes r client row act call s door (slice_get r.files (fs_of act)) refl
+released_homes r client row act owner call s door (Some epoch) = frees_homes r client row act owner call s epoch
+
+releases_homes : (r : RunNow) (client : ℕ) (row : ClientRow) (act : Action) (owner : List ℕ) (call : Call) (f : FileNow) → slice_get r.files (fs_of act) ≡ Some f
+    → homes (releases r client row act owner call f).run ≡ homes r
+unfolding releases
+releases_homes r client row act owner call f at = by_knocks requests_limit
+  where
+    by_knocks : (k : ℕ) → homes (released_at (record {
+      files = slice_set r.files (fs_of act) (knocks k f (place_of client f.home.fs f.home.first r.known.places)).file;
+      known = record r.known { places = sent_to client f.home.fs (knocks k f (place_of client f.home.fs f.home.first r.known.places)).server r.known.places };
+    }) client row act owner call (knocks k f (place_of client f.home.fs f.home.first r.known.places)).server
+        (knocks k f (place_of client f.home.fs f.home.first r.known.places)).door
+        (let_in (knocks k f (place_of client f.home.fs f.home.first r.known.places)).door)).run ≡ homes r
+    by_knocks k = released_homes (record {
+      files = slice_set r.files (fs_of act) (knocks k f (place_of client f.home.fs f.home.first r.known.places)).file;
+      known = record r.known { places = sent_to client f.home.fs (knocks k f (place_of client f.home.fs f.home.first r.known.places)).server r.known.places };
+    }) client row act owner call (knocks k f (place_of client f.home.fs f.home.first r.known.places)).server
+        (knocks k f (place_of client f.home.fs f.home.first r.known.places)).door
+        (let_in (knocks k f (place_of client f.home.fs f.home.first r.known.places)).door)
+        ∙ homes_set r.files (fs_of act) f (knocks k f (place_of client f.home.fs f.home.first r.known.places)).file at
+        (knocks_home k f (place_of client f.home.fs f.home.first r.known.places))
+
+found_homes : (r : RunNow) (client : ℕ) (row : ClientRow) (act : Action) (call : Call) (f : FileNow) (owner : Option (List ℕ)) → slice_get r.files (fs_of act) ≡ Some f
+    → homes (ran_found r client row act call f owner).run ≡ homes r
+unfolding ran_found
+found_homes r client row act call f None at =
+    homes_set r.files (fs_of act) f (tries f client row act call r.known).file at (tries_home f client row act call r.known)
+found_homes r client row act call f (Some owner) at = releases_homes r client row act owner call f at
+
+-- ---- every line
+
 call_homes : (r : RunNow) (client : ℕ) (row : ClientRow) (act : Action) (call : Option Call) (f : Option FileNow) → slice_get r.files (fs_of act) ≡ f
     → homes (ran_call r client row act call f).run ≡ homes r
 unfolding ran_call
 call_homes r client row act None f at = refl
 call_homes r client row act (Some call) None at = refl
-call_homes r client row act (Some call) (Some f) at =
-    homes_set r.files (fs_of act) f (tries f client row act call r.known).file at (tries_home f client row act call r.known)
+call_homes r client row act (Some call) (Some f) at = found_homes r client row act call f (released_by act) at
 
 acts_homes : (r : RunNow) (client : ℕ) (row : ClientRow) (act : Action) → homes (acts r client row act).run ≡ homes r
 unfolding acts

@@ -16,8 +16,11 @@ pub mod MovesKept
 pub mod OrderLaws
 pub mod OrderedLaws
 pub mod PhaseLaws
+pub mod ReleaseLaws
+pub mod ReleaseLemmas
 pub mod RunLaws
 pub mod SentStands
+pub mod Several
 pub mod SlotLemmas
 pub mod Standing
 pub mod StepWords

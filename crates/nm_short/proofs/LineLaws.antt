@@ -1,7 +1,7 @@
 -- Each line is the same over tables as over steps.
-use Rattle.std.proofs.Common.{◌≡◌, ℕ, zero, suc, List, [], ◌∷◌, length, Option, Some, None, refl, sym, subst, ap}
+use Rattle.std.proofs.Common.{◌≡◌, ◌<◌, ℕ, true, List, [], ◌∷◌, length, Option, Some, None, refl, sym, subst, ap, ◌∙◌}
+use Rattle.std.proofs.lemmas.Option.{none-some, same_Some}
 use Rattle.std.specs.Prelude.{slice_get, slice_set}
-use Rattle.std.specs.List.{AllZip}
 use Rattle.nm_rules.specs.Actions.{fs_of}
 use Rattle.nm_rules.specs.declared.action.Action.{Action}
 use Rattle.nm_rules.specs.declared.calls.Call.{Call}
@@ -10,41 +10,20 @@ use Rattle.nm_script.specs.declared.script.ClientRow.{ClientRow}
 use Rattle.nm_script.specs.declared.script.Head.{Head}
 use Rattle.nm_script.specs.declared.script.Line.{Line}
 use Rattle.nm_script.specs.declared.script.Line.TheVariants.{Do, Finish, Move, Freeze, Abandon, Commit, Settle, Shift, Show}
-use Rattle.nm_short.specs.Known.{Known, call_of, hand_of}
-use Rattle.nm_short.specs.ShortRun.{FileNow, RunNow, Ran, Order, tries, ordered, outcome, ran_call, acts, starts, goes_on, ran_do, ran_finish, ran_order, gives_order, run_line}
+use Rattle.nm_slot.specs.declared.answers.Enter.{Enter}
+use Rattle.nm_slot.specs.declared.answers.Enter.TheVariants as enter
+use Rattle.nm_slot.specs.History.{passes_now, is_out}
+use Rattle.nm_short.specs.Known.{Known, call_of, hand_of, place_of, sent_to, known_freed}
+use Rattle.nm_short.specs.Requests.{requests_limit, released_by, let_in, told_freed}
+use Rattle.nm_short.specs.ShortRun.{FileNow, Tried, Knocked, FreedFiles, RunNow, Ran, Order, knocks, at_door, tries, frees_all, frees_at, turned_away, released_at, releases, ran_found, ordered, outcome, ran_tried, ran_call, acts, starts, goes_on, ran_do, ran_finish, ran_order, gives_order, run_line}
 use Rattle.nm_short.specs.ShortRun.Order.{ToMove, ToFreeze, ToAbandon, ToCommit, ToSettle, ToShift, ToShow}
-use Rattle.nm_short.specs.Tables.{FileTables, TablesNow, Step, tries_to, ordered_to, told_call, told_act, told_start, told_go_on, told_do, told_finish, told_order, told_ordered, told_line}
-use Rattle.nm_short.proofs.ClientLaws.{IsTried, tries_same}
+use Rattle.nm_short.specs.Tables.{FileTables, TriedTo, KnockedTo, TablesNow, Step, knocks_to, door_to, tries_to, frees_all_to, frees_at_to, turned_to, released_to, releases_to, told_tried, told_found, ordered_to, told_call, told_act, told_start, told_go_on, told_do, told_finish, told_order, told_ordered, told_line}
+use Rattle.nm_short.proofs.ClientLaws.{IsTried, IsIn, IsKnocked, knocks_same, door_same, tries_same}
 use Rattle.nm_short.proofs.OrderLaws.{IsWent}
 use Rattle.nm_short.proofs.OrderedLaws.{IsOrder, ordered_same}
+use Rattle.nm_short.proofs.ReleaseLaws.{AreFreed, all_freed_same, released_same}
+use Rattle.nm_short.proofs.Several.{AllStand, BothStand, stands_at, stands_set, get_set}
 use Rattle.nm_short.proofs.Standing.{Stands}
-
--- ---- several file systems
-
--- each stands for each, in order
-abbrev pub AllStand : ℕ → List FileNow → List FileTables → Type 0
-AllStand n fs ts = AllZip (Stands n) fs ts
-
-abbrev pub BothStand : ℕ → Option FileNow → Option FileTables → Type 0
-BothStand n None None = Unit {0}
-BothStand n None (Some t) = ⊥
-BothStand n (Some f) None = ⊥
-BothStand n (Some f) (Some t) = Stands n f t
-
-pub stands_at : (n i : ℕ) (fs : List FileNow) (ts : List FileTables) → AllStand n fs ts → BothStand n (slice_get fs i) (slice_get ts i)
-stands_at n i [] [] all = tt
-stands_at n i [] (t ∷ ts) all = absurd all
-stands_at n i (f ∷ fs) [] all = absurd all
-stands_at n zero (f ∷ fs) (t ∷ ts) all = all.0
-stands_at n (suc i) (f ∷ fs) (t ∷ ts) all = stands_at n i fs ts all.1
-
-stands_set : (n i : ℕ) (fs : List FileNow) (ts : List FileTables) (f : FileNow) (t : FileTables) → AllStand n fs ts → Stands n f t
-    → AllStand n (slice_set fs i f) (slice_set ts i t)
-stands_set n i [] [] f t all stands = tt
-stands_set n i [] (u ∷ ts) f t all stands = absurd all
-stands_set n i (g ∷ fs) [] f t all stands = absurd all
-stands_set n zero (g ∷ fs) (u ∷ ts) f t all stands = (stands, all.1)
-stands_set n (suc i) (g ∷ fs) (u ∷ ts) f t all stands = (all.0, stands_set n i fs ts f t all.1 stands)
 
 -- ---- the run
 
@@ -59,33 +38,160 @@ pub record IsRan (n : ℕ) (ran : Ran) (step : Step) : Type 0 where
 
 -- ---- a client's line
 
-tried_same : (n : ℕ) (r : RunNow) (t : TablesNow) (client : ℕ) (row : ClientRow) (act : Action) (call : Option Call) (f : Option FileNow) (u : Option FileTables)
-    → RunStands n r t → BothStand n f u → IsRan n (ran_call r client row act call f) (told_call t client row act call u)
-unfolding ran_call told_call
-tried_same n r t client row act None f u run both = record { rows = refl; next = run }
-tried_same n r t client row act (Some call) None None run both = record { rows = refl; next = run }
-tried_same n r t client row act (Some call) None (Some u) run both = absurd both
-tried_same n r t client row act (Some call) (Some f) None run both = absurd both
-tried_same n r t client row act (Some call) (Some f) (Some u) run both =
-    subst (λ known. IsRan n (ran_call r client row act (Some call) (Some f)) (record {
-      rows = outcome row act (tries_to u client row act call known).told ∷ [];
-      next = record { files = slice_set t.files (fs_of act) (tries_to u client row act call known).file; known = (tries_to u client row act call known).known };
-    })) (sym run.known)
-    (let same : IsTried n (tries f client row act call r.known) (tries_to u client row act call r.known) = tries_same n f u client row act call r.known both in
+tell_same : (n : ℕ) (r : RunNow) (t : TablesNow) (row : ClientRow) (act : Action) (tried : Tried) (to : TriedTo) → RunStands n r t → IsTried n tried to
+    → IsRan n (ran_tried r row act tried) (told_tried t row act to)
+tell_same n r t row act tried to run same = record {
+  rows = ap (λ what. outcome row act what ∷ []) same.told;
+  next = record {
+    files = stands_set n (fs_of act) r.files t.files tried.file to.file run.files same.file;
+    known = same.known;
+  };
+}
+
+-- ---- a release
+
+outside : (n : ℕ) (f : FileNow) (s : ℕ) (door : Option Enter) → let_in door ≡ None → IsIn n f s door
+unfolding let_in
+outside n f s None e = tt
+outside n f s (Some (enter.Entered pass)) e = absurd (none-some pass.epoch (sym e))
+outside n f s (Some (enter.Moved dest)) e = tt
+outside n f s (Some (enter.Full passes)) e = tt
+outside n f s (Some enter.Delay) e = tt
+outside n f s (Some enter.Unknown) e = tt
+
+inside : (n : ℕ) (f : FileNow) (s : ℕ) (door : Option Enter) (epoch : ℕ) → let_in door ≡ Some epoch → IsIn n f s door
+    → (s < n) × (is_out epoch (passes_now f.moments s) ≡ true)
+unfolding let_in
+inside n f s None epoch e its = absurd (none-some epoch e)
+inside n f s (Some (enter.Entered pass)) epoch e its =
+    (its.0, subst (λ i. is_out i (passes_now f.moments s) ≡ true) (same_Some pass.epoch epoch e) its.1)
+inside n f s (Some (enter.Moved dest)) epoch e its = absurd (none-some epoch e)
+inside n f s (Some (enter.Full passes)) epoch e its = absurd (none-some epoch e)
+inside n f s (Some enter.Delay) epoch e its = absurd (none-some epoch e)
+inside n f s (Some enter.Unknown) epoch e its = absurd (none-some epoch e)
+
+turned_same : (n : ℕ) (r : RunNow) (t : TablesNow) (client : ℕ) (row : ClientRow) (act : Action) (call : Call) (s : ℕ) (door : Option Enter)
+    (f : Option FileNow) (u : Option FileTables) → RunStands n r t → BothStand n f u → let_in door ≡ None
+    → IsRan n (turned_away r client row act call s door f) (turned_to t client row act call s door u)
+unfolding turned_away turned_to
+turned_same n r t client row act call s door None None run both e = record { rows = refl; next = run }
+turned_same n r t client row act call s door None (Some u) run both e = absurd both
+turned_same n r t client row act call s door (Some f) None run both e = absurd both
+turned_same n r t client row act call s door (Some f) (Some u) run both e =
+    subst (λ known. IsRan n (ran_tried r row act (at_door f s door client row act call r.known)) (told_tried t row act (door_to u s door client row act call known)))
+    (sym run.known)
+    (tell_same n r t row act (at_door f s door client row act call r.known) (door_to u s door client row act call r.known) run
+    (door_same n f u s door client row act call r.known both (outside n f s door e)))
+
+frees_same : (n : ℕ) (r : RunNow) (t : TablesNow) (client : ℕ) (row : ClientRow) (act : Action) (owner : List ℕ) (call : Call) (s epoch : ℕ) (f : FileNow)
+    → RunStands n r t → s < n → slice_get r.files (fs_of act) ≡ Some f → is_out epoch (passes_now f.moments s) ≡ true
+    → IsRan n (frees_at r client row act owner call s epoch) (frees_at_to t client row act owner call s epoch)
+unfolding frees_at frees_at_to
+frees_same n r t client row act owner call s epoch f run below at out =
+    let all : FreedFiles = frees_all r.files s call in
+    let same : AreFreed n all (frees_all_to t.files s call) = all_freed_same n r.files t.files s call run.files in
     record {
-      rows = ap (λ what. outcome row act what ∷ []) same.told;
+      rows = ap (λ its. outcome row act (told_freed its) ∷ []) same.freed;
       next = record {
-        files = stands_set n (fs_of act) r.files t.files (tries f client row act call r.known).file (tries_to u client row act call r.known).file run.files same.file;
-        known = same.known;
+        files = released_same n s epoch r.files t.files (fs_of act) f call below run.files at out;
+        known = ap (λ its. known_freed client act owner s its t.known) same.freed ∙ ap (known_freed client act owner s all.freed) run.known;
       };
-    })
+    }
+
+door_released : (n : ℕ) (r : RunNow) (t : TablesNow) (client : ℕ) (row : ClientRow) (act : Action) (owner : List ℕ) (call : Call) (s : ℕ) (door : Option Enter)
+    (f : FileNow) (its : Option ℕ) → let_in door ≡ its → RunStands n r t → slice_get r.files (fs_of act) ≡ Some f → IsIn n f s door
+    → IsRan n (released_at r client row act owner call s door its) (released_to t client row act owner call s door its)
+unfolding released_at released_to
+door_released n r t client row act owner call s door f None e run at is =
+    turned_same n r t client row act call s door (slice_get r.files (fs_of act)) (slice_get t.files (fs_of act)) run
+    (stands_at n (fs_of act) r.files t.files run.files) e
+door_released n r t client row act owner call s door f (Some epoch) e run at is =
+    let let_it_in : (s < n) × (is_out epoch (passes_now f.moments s) ≡ true) = inside n f s door epoch e is in
+    frees_same n r t client row act owner call s epoch f run let_it_in.0 at let_it_in.1
+
+-- after the knocks, with what the client knows then
+knocked_run : RunNow → Action → ℕ → ℕ → Knocked → Known → RunNow
+knocked_run r act client fs knocked known =
+    record { files = slice_set r.files (fs_of act) knocked.file; known = record known { places = sent_to client fs knocked.server known.places } }
+
+knocked_tables : TablesNow → Action → ℕ → ℕ → FileTables → ℕ → Known → TablesNow
+knocked_tables t act client fs file server known =
+    record { files = slice_set t.files (fs_of act) file; known = record known { places = sent_to client fs server known.places } }
+
+knocked_released : (n : ℕ) (r : RunNow) (t : TablesNow) (client fs : ℕ) (row : ClientRow) (act : Action) (owner : List ℕ) (call : Call) (f : FileNow)
+    (knocked : Knocked) (to : KnockedTo) → RunStands n r t → slice_get r.files (fs_of act) ≡ Some f → IsKnocked n knocked to
+    → IsRan n (released_at (knocked_run r act client fs knocked r.known) client row act owner call knocked.server knocked.door (let_in knocked.door))
+    (released_to (knocked_tables t act client fs to.file to.server r.known) client row act owner call to.server to.door (let_in to.door))
+unfolding knocked_run knocked_tables
+knocked_released n r t client fs row act owner call f knocked to run at same =
+    subst (λ s. IsRan n (released_at (knocked_run r act client fs knocked r.known) client row act owner call knocked.server knocked.door (let_in knocked.door))
+    (released_to (knocked_tables t act client fs to.file s r.known) client row act owner call s to.door (let_in to.door))) (sym same.server)
+    (subst (λ door. IsRan n (released_at (knocked_run r act client fs knocked r.known) client row act owner call knocked.server knocked.door (let_in knocked.door))
+    (released_to (knocked_tables t act client fs to.file knocked.server r.known) client row act owner call knocked.server door (let_in door))) (sym same.door)
+    (door_released n (knocked_run r act client fs knocked r.known) (knocked_tables t act client fs to.file knocked.server r.known) client row act owner call
+    knocked.server knocked.door knocked.file (let_in knocked.door) refl
+    (record { files = stands_set n (fs_of act) r.files t.files knocked.file to.file run.files same.file; known = refl })
+    (get_set r.files (fs_of act) f knocked.file at) same.inside))
+
+releases_by : (k n : ℕ) (r : RunNow) (t : TablesNow) (client fs first : ℕ) (row : ClientRow) (act : Action) (owner : List ℕ) (call : Call) (f : FileNow) (u : FileTables)
+    → RunStands n r t → slice_get r.files (fs_of act) ≡ Some f → Stands n f u
+    → IsRan n (released_at (knocked_run r act client fs (knocks k f (place_of client fs first r.known.places)) r.known) client row act owner call
+    (knocks k f (place_of client fs first r.known.places)).server (knocks k f (place_of client fs first r.known.places)).door
+    (let_in (knocks k f (place_of client fs first r.known.places)).door))
+    (released_to (knocked_tables t act client fs (knocks_to k u (place_of client fs first r.known.places)).file
+    (knocks_to k u (place_of client fs first r.known.places)).server r.known) client row act owner call
+    (knocks_to k u (place_of client fs first r.known.places)).server (knocks_to k u (place_of client fs first r.known.places)).door
+    (let_in (knocks_to k u (place_of client fs first r.known.places)).door))
+releases_by k n r t client fs first row act owner call f u run at stands =
+    knocked_released n r t client fs row act owner call f (knocks k f (place_of client fs first r.known.places)) (knocks_to k u (place_of client fs first r.known.places))
+    run at (knocks_same k n f u (place_of client fs first r.known.places) stands)
+
+-- what of a release over tables is told of the file system and of the client
+releases_with : ℕ → TablesNow → ℕ → ClientRow → Action → List ℕ → Call → FileTables → ℕ → ℕ → Known → Step
+releases_with k t client row act owner call u fs first known =
+    released_to (knocked_tables t act client fs (knocks_to k u (place_of client fs first known.places)).file
+    (knocks_to k u (place_of client fs first known.places)).server known) client row act owner call
+    (knocks_to k u (place_of client fs first known.places)).server (knocks_to k u (place_of client fs first known.places)).door
+    (let_in (knocks_to k u (place_of client fs first known.places)).door)
+
+releases_same : (n : ℕ) (r : RunNow) (t : TablesNow) (client : ℕ) (row : ClientRow) (act : Action) (owner : List ℕ) (call : Call) (f : FileNow) (u : FileTables)
+    → RunStands n r t → slice_get r.files (fs_of act) ≡ Some f → Stands n f u
+    → IsRan n (releases r client row act owner call f) (releases_to t client row act owner call u)
+unfolding releases releases_to knocked_run knocked_tables releases_with
+releases_same n r t client row act owner call f u run at stands =
+    subst (λ known. IsRan n (releases r client row act owner call f) (releases_with requests_limit t client row act owner call u u.fs u.first known)) (sym run.known)
+    (subst (λ fs. IsRan n (releases r client row act owner call f) (releases_with requests_limit t client row act owner call u fs u.first r.known)) (sym stands.fs)
+    (subst (λ first. IsRan n (releases r client row act owner call f) (releases_with requests_limit t client row act owner call u f.home.fs first r.known)) (sym stands.first)
+    (releases_by requests_limit n r t client f.home.fs f.home.first row act owner call f u run at stands)))
+
+-- ---- an action
+
+found_same : (n : ℕ) (r : RunNow) (t : TablesNow) (client : ℕ) (row : ClientRow) (act : Action) (call : Call) (f : FileNow) (u : FileTables) (owner : Option (List ℕ))
+    → RunStands n r t → slice_get r.files (fs_of act) ≡ Some f → Stands n f u
+    → IsRan n (ran_found r client row act call f owner) (told_found t client row act call u owner)
+unfolding ran_found told_found
+found_same n r t client row act call f u None run at stands =
+    subst (λ known. IsRan n (ran_tried r row act (tries f client row act call r.known)) (told_tried t row act (tries_to u client row act call known))) (sym run.known)
+    (tell_same n r t row act (tries f client row act call r.known) (tries_to u client row act call r.known) run
+    (tries_same n f u client row act call r.known stands))
+found_same n r t client row act call f u (Some owner) run at stands = releases_same n r t client row act owner call f u run at stands
+
+tried_same : (n : ℕ) (r : RunNow) (t : TablesNow) (client : ℕ) (row : ClientRow) (act : Action) (call : Option Call) (f : Option FileNow) (u : Option FileTables)
+    → RunStands n r t → slice_get r.files (fs_of act) ≡ f → BothStand n f u → IsRan n (ran_call r client row act call f) (told_call t client row act call u)
+unfolding ran_call told_call
+tried_same n r t client row act None f u run at both = record { rows = refl; next = run }
+tried_same n r t client row act (Some call) None None run at both = record { rows = refl; next = run }
+tried_same n r t client row act (Some call) None (Some u) run at both = absurd both
+tried_same n r t client row act (Some call) (Some f) None run at both = absurd both
+tried_same n r t client row act (Some call) (Some f) (Some u) run at both =
+    found_same n r t client row act call f u (released_by act) run at both
 
 acts_same : (n : ℕ) (r : RunNow) (t : TablesNow) (client : ℕ) (row : ClientRow) (act : Action) → RunStands n r t
     → IsRan n (acts r client row act) (told_act t client row act)
 unfolding acts told_act
 acts_same n r t client row act run =
     subst (λ known. IsRan n (acts r client row act) (told_call t client row act (call_of client row known act) (slice_get t.files (fs_of act)))) (sym run.known)
-    (tried_same n r t client row act (call_of client row r.known act) (slice_get r.files (fs_of act)) (slice_get t.files (fs_of act)) run
+    (tried_same n r t client row act (call_of client row r.known act) (slice_get r.files (fs_of act)) (slice_get t.files (fs_of act)) run refl
     (stands_at n (fs_of act) r.files t.files run.files))
 
 started_same : (n : ℕ) (r : RunNow) (t : TablesNow) (client : ℕ) (row : ClientRow) (act : Action) (hand : Option Action) → RunStands n r t

@@ -22,7 +22,8 @@ use Rattle.nm_short.specs.ShortRun.{FileNow, RunNow, at_server, phase_of_file, r
 use Rattle.nm_short.specs.Tables.{FileTables, TablesNow, Step, slot_in, no_part, told_line, text_from, tables_of_head}
 use Rattle.nm_short.proofs.FirstLaws.{run_at_first}
 use Rattle.nm_short.proofs.HomeLaws.{homes_after, home_at}
-use Rattle.nm_short.proofs.LineLaws.{BothStand, RunStands, IsRan, line_same, stands_at}
+use Rattle.nm_short.proofs.LineLaws.{RunStands, IsRan, line_same}
+use Rattle.nm_short.proofs.Several.{BothStand, stands_at}
 use Rattle.nm_short.proofs.Standing.{Stands}
 
 -- ---- the text

@@ -1,5 +1,5 @@
 -- A file system, as the code keeps it.
-use Rattle.std.specs.Prelude.{ℕ, [], ◌∷◌, Option, Some, None, IfSome}
+use Rattle.std.specs.Prelude.{ℕ, List, [], ◌∷◌, Option, Some, None, IfSome}
 use Rattle.nm_rules.specs.declared.cause.Cause.TheVariants as cause
 use Rattle.nm_script.specs.declared.report.MoveTold.TheVariants as move_told
 use Rattle.nm_script.specs.declared.script.Head.{Head}
@@ -14,6 +14,7 @@ use Rattle.nm_short.specs.declared.asks.Asked.{Asked as CodeAsked}
 use Rattle.nm_short.specs.declared.asks.Knocked.{Knocked as CodeKnocked}
 use Rattle.nm_short.specs.declared.files.SentImage.{SentImage}
 use Rattle.nm_short.specs.declared.files.Handed.{Handed}
+use Rattle.nm_short.specs.declared.locking.Freed.{Freed}
 use Rattle.nm_short.specs.declared.orders.Came.{Came}
 use Rattle.nm_short.specs.declared.orders.Order.{Order as CodeOrder}
 use Rattle.nm_short.specs.declared.orders.Order.TheVariants as code
@@ -21,7 +22,7 @@ use Rattle.nm_short.specs.declared.orders.Ordered.{Ordered as CodeOrdered}
 use Rattle.nm_short.specs.Known.{Known}
 use Rattle.nm_short.specs.ShortRun.{Order}
 use Rattle.nm_short.specs.ShortRun.Order.{ToMove, ToFreeze, ToAbandon, ToCommit, ToSettle, ToShift, ToShow}
-use Rattle.nm_short.specs.Tables.{FileTables, SentTo, HandedTo, WentTo, AskedTo, KnockedTo, slot_in, stepped, commits_in, had_by, goes_well_to, ends_in, nothing_sent}
+use Rattle.nm_short.specs.Tables.{FileTables, SentTo, HandedTo, WentTo, AskedTo, KnockedTo, FreedTo, FreedAllTo, slot_in, stepped, commits_in, had_by, goes_well_to, ends_in, nothing_sent}
 
 abbrev pub sent_of : SentImage → SentTo
 sent_of sent = record { source = sent.source; dest = sent.dest; offer = offer_of sent.image }
@@ -90,6 +91,13 @@ sent_on enter.Unknown = None
 
 abbrev pub knocked_to : CodeKnocked → FileTables → KnockedTo
 knocked_to knocked f = record { file = f; server = knocked.server; door = knocked.door }
+
+-- what came of a release, with what it left
+abbrev pub freed_in : Freed → FileTables → FreedTo
+freed_in its f = record { file = f; freed = its }
+
+abbrev pub all_freed_in : Freed → List FileTables → FreedAllTo
+all_freed_in its fs = record { files = fs; freed = its }
 
 -- what came of a request, with what it left
 abbrev pub asked_in : CodeAsked → FileTables → Known → AskedTo

@@ -1,5 +1,6 @@
 -- What the clients of a script know, and what they send.
 use Rattle.std.specs.Prelude.{ℕ, ◌==◌, ◌&&◌, not, Bool, false, List, [], ◌∷◌, ◌++◌, map, Option, Some, None, find, filter, option_map, unwrap_or, codes, if◌then◌else◌}
+use Rattle.std.specs.List.{list_any}
 use Rattle.std.specs.Str.{bytes_eq}
 use Rattle.nm_rules.specs.Parties.{Party}
 use Rattle.nm_rules.specs.Past.{is_done}
@@ -44,6 +45,8 @@ use Rattle.nm_short.specs.declared.clients.Believed.{Believed}
 use Rattle.nm_short.specs.declared.clients.Holding.{Holding}
 use Rattle.nm_short.specs.declared.clients.InHand.{InHand}
 use Rattle.nm_short.specs.declared.clients.OwnerSeqid.{OwnerSeqid}
+use Rattle.nm_short.specs.declared.locking.Freed.{Freed}
+use Rattle.nm_short.specs.declared.locking.Freed.TheVariants.{On, Waits, Ends}
 
 -- ---- what clients know
 
@@ -199,6 +202,19 @@ unfoldable pub sent_to : ℕ → ℕ → ℕ → List Believed → List Believed
 sent_to client fs at rows =
     filter (λ row. not (is_place_of client fs row)) rows ++ record { client = client; fs = fs; at = at } ∷ []
 
+-- ---- what a release of a lock owner leaves
+
+-- The client believes the file system to be at that server. It knocked at each in which it holds something.
+unfoldable pub is_believed : ℕ → ℕ → ℕ → List Believed → Bool
+is_believed client fs at places = list_any (λ row. is_place_of client fs row && (row.at == at)) places
+
+abbrev pub is_released : ℕ → List ℕ → ℕ → List Believed → Holding → Bool
+is_released client owner at places row = (row.client == client) && bytes_eq row.owner owner && is_believed client row.fs at places
+
+-- The client holds nothing of the owner any more in the file systems at that server.
+unfoldable pub still_held : ℕ → List ℕ → ℕ → List Believed → List Holding → List Holding
+still_held client owner at places rows = filter (λ row. not (is_released client owner at places row)) rows
+
 -- ---- what clients have in hand
 
 -- the action that waits
@@ -210,6 +226,13 @@ put_down client rows = filter (λ row. not (row.client == client)) rows
 
 unfoldable pub taken_up : ℕ → Action → List InHand → List InHand
 taken_up client action rows = put_down client rows ++ record { client = client; action = action } ∷ []
+
+-- What a client knows after a release of an owner at a server.
+unfoldable pub known_freed : ℕ → Action → List ℕ → ℕ → Freed → Known → Known
+known_freed client act owner at On known =
+    record known { locks = still_held client owner at known.places known.locks; in_hand = put_down client known.in_hand }
+known_freed client act owner at Waits known = record known { in_hand = taken_up client act known.in_hand }
+known_freed client act owner at (Ends status) known = record known { in_hand = put_down client known.in_hand }
 
 -- ---- what clients send
 

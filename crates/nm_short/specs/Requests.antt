@@ -1,5 +1,5 @@
 -- The requests of an action: the reply to each, what goes on with it, and what the client is told of them.
-use Rattle.std.specs.Prelude.{ℕ, List, [], ◌∷◌, ◌==◌, not, bit_and, map, Option, Some, None, if◌then◌else◌}
+use Rattle.std.specs.Prelude.{ℕ, Bool, true, false, List, [], ◌∷◌, ◌==◌, not, bit_and, map, Option, Some, None, if◌then◌else◌}
 use Rattle.nm_rules.specs.Answer.{reply_with, refused_value}
 use Rattle.nm_rules.specs.Parties.{Party}
 use Rattle.nm_rules.specs.Past.{is_done}
@@ -25,6 +25,10 @@ use Rattle.nm_script.specs.declared.report.Told.TheVariants as told
 use Rattle.nm_slot.specs.declared.answers.Answer.{Answer}
 use Rattle.nm_slot.specs.declared.answers.Answer.TheVariants as answer
 use Rattle.nm_script.specs.declared.script.ClientRow.{ClientRow}
+use Rattle.nm_slot.specs.declared.answers.Enter.{Enter}
+use Rattle.nm_slot.specs.declared.answers.Enter.TheVariants as enter
+use Rattle.nm_short.specs.declared.locking.Freed.{Freed}
+use Rattle.nm_short.specs.declared.locking.Freed.TheVariants.{On, Waits, Ends}
 use Rattle.nm_short.specs.Known.{confirm_call, list_call, test_call}
 
 -- the requests of one line
@@ -95,6 +99,36 @@ told_refused status _ = told.Answered status
 
 unfoldable pub told_by : Reply → List (List ℕ) → Told
 told_by reply names = if is_done reply.status then told_ok reply.value names else told_refused reply.status reply.value
+
+-- ---- RELEASE_LOCKOWNER, which goes to each file system of a server in turn
+
+-- the owner that an action releases
+unfoldable pub released_by : Action → Option (List ℕ)
+released_by (action.Release a) = Some a.owner
+released_by _ = None
+
+-- The pass of who is let in at a door, by its epoch.
+unfoldable pub let_in : Option Enter → Option ℕ
+let_in None = None
+let_in (Some (enter.Entered pass)) = Some pass.epoch
+let_in (Some (enter.Moved _)) = None
+let_in (Some (enter.Full _)) = None
+let_in (Some enter.Delay) = None
+let_in (Some enter.Unknown) = None
+
+-- With OK it goes on with the next file system, and another status is its answer.
+unfoldable pub freed_by : OpStatus → Freed
+freed_by its_status = if is_done its_status then On else Ends its_status
+
+abbrev pub frees_more : Freed → Bool
+frees_more On = true
+frees_more Waits = false
+frees_more (Ends _) = false
+
+unfoldable pub told_freed : Freed → Told
+told_freed On = told.Answered status.Nfs4Ok
+told_freed Waits = told.Delayed
+told_freed (Ends its_status) = told.Answered its_status
 
 -- A file system that the server doesn't know: where a client looks it up by name it isn't there, and what it has a handle of
 -- is stale.

@@ -42,8 +42,10 @@ use Rattle.nm_slot.specs.Phases.{Phase, Moment, phase_now, source_of}
 use Rattle.nm_slot.specs.Phases.Phase.{At, Closing, Frozen, Passing}
 use Rattle.nm_slot.specs.SlotNow.{SlotView, SlotStep}
 use Rattle.nm_slot.specs.SlotNow.SlotStep.{Entering, Leaving, Applying, Beginning, Freezing, Imaging, Committing, Abandoning, Accepting, Installing}
-use Rattle.nm_short.specs.Known.{Known, knows_nothing, learned, call_of, place_of, sent_to, hand_of, put_down, taken_up}
-use Rattle.nm_short.specs.Requests.{requests_limit, reply_of, goes_on_with, names_of, told_by, unknown_status}
+use Rattle.nm_short.specs.declared.locking.Freed.{Freed}
+use Rattle.nm_short.specs.declared.locking.Freed.TheVariants.{On, Waits, Ends}
+use Rattle.nm_short.specs.Known.{Known, knows_nothing, learned, call_of, place_of, sent_to, hand_of, put_down, taken_up, known_freed}
+use Rattle.nm_short.specs.Requests.{requests_limit, reply_of, goes_on_with, names_of, told_by, released_by, let_in, freed_by, frees_more, told_freed, unknown_status}
 
 -- ---- a file system
 
@@ -268,6 +270,54 @@ tries f client row act call known =
     at_door knocked.file knocked.server knocked.door client row act call
     (record known { places = sent_to client f.home.fs knocked.server known.places })
 
+-- ---- what a server releases
+
+-- What came of a RELEASE_LOCKOWNER in one file system at a server.
+pub record FreedFile : Type 0 where
+  pub file : FileNow
+  pub freed : Freed
+
+-- with the pass the call is made, and the pass comes back
+unfoldable pub frees_within : FileNow → ℕ → ℕ → Call → FreedFile
+frees_within f s epoch call =
+    let a = apply_answer (at_server f s) epoch call Pass in
+    record { file = did (did f s (Applying epoch call Pass a)) s (Leaving epoch); freed = freed_by (reply_of call a).status }
+
+-- A file system that isn't there is passed over.
+unfoldable pub frees_after : FileNow → ℕ → Call → Enter → FreedFile
+frees_after f s call (enter.Entered pass) = frees_within f s pass.epoch call
+frees_after f s call (enter.Moved dest) = record { file = f; freed = On }
+frees_after f s call (enter.Full passes) = record { file = f; freed = Ends status.Resource }
+frees_after f s call enter.Delay = record { file = f; freed = Waits }
+frees_after f s call enter.Unknown = record { file = f; freed = On }
+
+unfoldable pub frees : FileNow → ℕ → Call → FreedFile
+frees f s call =
+    let a = enter_answer (at_server f s) in
+    frees_after (did f s (Entering a)) s call a
+
+-- each file system by its number, until one ends it
+pub record FreedFiles : Type 0 where
+  pub files : List FileNow
+  pub freed : Freed
+
+abbrev pub freed_then : FreedFile → List FileNow → FreedFiles → FreedFiles
+freed_then one rest further =
+    if frees_more one.freed then record { files = one.file ∷ further.files; freed = further.freed }
+    else record { files = one.file ∷ rest; freed = one.freed }
+
+unfoldable pub frees_all : List FileNow → ℕ → Call → FreedFiles
+frees_all [] s call = record { files = []; freed = On }
+frees_all (f ∷ fs) s call = freed_then (frees f s call) fs (frees_all fs s call)
+
+-- a pass of a file system comes back
+unfoldable pub left_by : List FileNow → ℕ → ℕ → ℕ → Option FileNow → List FileNow
+left_by files fs s epoch None = files
+left_by files fs s epoch (Some f) = slice_set files fs (did f s (Leaving epoch))
+
+abbrev pub leaves_at : List FileNow → ℕ → ℕ → ℕ → List FileNow
+leaves_at files fs s epoch = left_by files fs s epoch (slice_get files fs)
+
 -- ---- the run
 
 -- Each file system, and what the clients know.
@@ -292,11 +342,45 @@ ran_tried r row act t = record {
   run = record { files = slice_set r.files (fs_of act) t.file; known = t.known };
 }
 
+-- With a pass of the file system that it names, the client asks the server to release the owner in each file system.
+unfoldable pub frees_at : RunNow → ℕ → ClientRow → Action → List ℕ → Call → ℕ → ℕ → Ran
+frees_at r client row act owner call s epoch =
+    let all = frees_all r.files s call in
+    record {
+      rows = outcome row act (told_freed all.freed) ∷ [];
+      run = record {
+        files = leaves_at all.files (fs_of act) s epoch;
+        known = known_freed client act owner s all.freed r.known;
+      };
+    }
+
+-- not let in, as with every action
+unfoldable pub turned_away : RunNow → ℕ → ClientRow → Action → Call → ℕ → Option Enter → Option FileNow → Ran
+turned_away r client row act call s door None = nothing_said r
+turned_away r client row act call s door (Some f) = ran_tried r row act (at_door f s door client row act call r.known)
+
+-- what came of the knock at the file system that it names
+unfoldable pub released_at : RunNow → ℕ → ClientRow → Action → List ℕ → Call → ℕ → Option Enter → Option ℕ → Ran
+released_at r client row act owner call s door None = turned_away r client row act call s door (slice_get r.files (fs_of act))
+released_at r client row act owner call s door (Some epoch) = frees_at r client row act owner call s epoch
+
+unfoldable pub releases : RunNow → ℕ → ClientRow → Action → List ℕ → Call → FileNow → Ran
+releases r client row act owner call f =
+    let knocked = knocks requests_limit f (place_of client f.home.fs f.home.first r.known.places) in
+    released_at (record {
+      files = slice_set r.files (fs_of act) knocked.file;
+      known = record r.known { places = sent_to client f.home.fs knocked.server r.known.places };
+    }) client row act owner call knocked.server knocked.door (let_in knocked.door)
+
+unfoldable pub ran_found : RunNow → ℕ → ClientRow → Action → Call → FileNow → Option (List ℕ) → Ran
+ran_found r client row act call f None = ran_tried r row act (tries f client row act call r.known)
+ran_found r client row act call f (Some owner) = releases r client row act owner call f
+
 -- Without a stateid that it needs nothing is sent.
 unfoldable pub ran_call : RunNow → ℕ → ClientRow → Action → Option Call → Option FileNow → Ran
 ran_call r client row act None f = record { rows = outcome row act told.NoState ∷ []; run = r }
 ran_call r client row act (Some call) None = nothing_said r
-ran_call r client row act (Some call) (Some f) = ran_tried r row act (tries f client row act call r.known)
+ran_call r client row act (Some call) (Some f) = ran_found r client row act call f (released_by act)
 
 unfoldable pub acts : RunNow → ℕ → ClientRow → Action → Ran
 acts r client row act = ran_call r client row act (call_of client row r.known act) (slice_get r.files (fs_of act))

@@ -44,8 +44,10 @@ use Rattle.nm_slot.specs.SlotNow.Doing.{Serves}
 use Rattle.nm_slot.specs.SlotNow.HandedOver.{Committed, Again, Dead}
 use Rattle.nm_slot.specs.SlotNow.SlotStep.{Entering, Leaving, Applying, Beginning, Freezing, Committing, Abandoning, Accepting, Installing}
 use Rattle.nm_slot.specs.SlotNow.Stage.{Away, Here}
-use Rattle.nm_short.specs.Known.{Known, knows_nothing, learned, call_of, place_of, sent_to, hand_of, put_down, taken_up}
-use Rattle.nm_short.specs.Requests.{requests_limit, reply_of, goes_on_with, names_of, told_by, unknown_status}
+use Rattle.nm_short.specs.declared.locking.Freed.{Freed}
+use Rattle.nm_short.specs.declared.locking.Freed.TheVariants.{On, Waits, Ends}
+use Rattle.nm_short.specs.Known.{Known, knows_nothing, learned, call_of, place_of, sent_to, hand_of, put_down, taken_up, known_freed}
+use Rattle.nm_short.specs.Requests.{requests_limit, reply_of, goes_on_with, names_of, told_by, released_by, let_in, freed_by, frees_more, told_freed, unknown_status}
 use Rattle.nm_short.specs.ShortRun.{Order, fs_name, phase_shown, phase_row, move_row, abandon_told, outcome}
 use Rattle.nm_short.specs.ShortRun.Order.{ToMove, ToFreeze, ToAbandon, ToCommit, ToSettle, ToShift, ToShow}
 
@@ -270,6 +272,49 @@ tries_to f client row act call known =
     door_to knocked.file knocked.server knocked.door client row act call
     (record known { places = sent_to client f.fs knocked.server known.places })
 
+-- ---- what a server releases
+
+pub record FreedTo : Type 0 where
+  pub file : FileTables
+  pub freed : Freed
+
+unfoldable pub frees_within_to : FileTables → ℕ → ℕ → Call → FreedTo
+frees_within_to f s epoch call =
+    let a = apply_answer (slot_in f s) epoch call Pass in
+    record { file = stepped (stepped f s (Applying epoch call Pass a)) s (Leaving epoch); freed = freed_by (reply_of call a).status }
+
+unfoldable pub frees_after_to : FileTables → ℕ → Call → Enter → FreedTo
+frees_after_to f s call (enter.Entered pass) = frees_within_to f s pass.epoch call
+frees_after_to f s call (enter.Moved dest) = record { file = f; freed = On }
+frees_after_to f s call (enter.Full passes) = record { file = f; freed = Ends status.Resource }
+frees_after_to f s call enter.Delay = record { file = f; freed = Waits }
+frees_after_to f s call enter.Unknown = record { file = f; freed = On }
+
+unfoldable pub frees_to : FileTables → ℕ → Call → FreedTo
+frees_to f s call =
+    let a = enter_answer (slot_in f s) in
+    frees_after_to (stepped f s (Entering a)) s call a
+
+pub record FreedAllTo : Type 0 where
+  pub files : List FileTables
+  pub freed : Freed
+
+abbrev pub freed_then_to : FreedTo → List FileTables → FreedAllTo → FreedAllTo
+freed_then_to one rest further =
+    if frees_more one.freed then record { files = one.file ∷ further.files; freed = further.freed }
+    else record { files = one.file ∷ rest; freed = one.freed }
+
+unfoldable pub frees_all_to : List FileTables → ℕ → Call → FreedAllTo
+frees_all_to [] s call = record { files = []; freed = On }
+frees_all_to (f ∷ fs) s call = freed_then_to (frees_to f s call) fs (frees_all_to fs s call)
+
+unfoldable pub left_to : List FileTables → ℕ → ℕ → ℕ → Option FileTables → List FileTables
+left_to files fs s epoch None = files
+left_to files fs s epoch (Some f) = slice_set files fs (stepped f s (Leaving epoch))
+
+abbrev pub leaves_to : List FileTables → ℕ → ℕ → ℕ → List FileTables
+leaves_to files fs s epoch = left_to files fs s epoch (slice_get files fs)
+
 -- ---- the run
 
 -- what the servers have, and what the clients know
@@ -291,10 +336,41 @@ told_tried t row act tried = record {
   next = record { files = slice_set t.files (fs_of act) tried.file; known = tried.known };
 }
 
+unfoldable pub frees_at_to : TablesNow → ℕ → ClientRow → Action → List ℕ → Call → ℕ → ℕ → Step
+frees_at_to t client row act owner call s epoch =
+    let all = frees_all_to t.files s call in
+    record {
+      rows = outcome row act (told_freed all.freed) ∷ [];
+      next = record {
+        files = leaves_to all.files (fs_of act) s epoch;
+        known = known_freed client act owner s all.freed t.known;
+      };
+    }
+
+unfoldable pub turned_to : TablesNow → ℕ → ClientRow → Action → Call → ℕ → Option Enter → Option FileTables → Step
+turned_to t client row act call s door None = says_nothing t
+turned_to t client row act call s door (Some f) = told_tried t row act (door_to f s door client row act call t.known)
+
+unfoldable pub released_to : TablesNow → ℕ → ClientRow → Action → List ℕ → Call → ℕ → Option Enter → Option ℕ → Step
+released_to t client row act owner call s door None = turned_to t client row act call s door (slice_get t.files (fs_of act))
+released_to t client row act owner call s door (Some epoch) = frees_at_to t client row act owner call s epoch
+
+unfoldable pub releases_to : TablesNow → ℕ → ClientRow → Action → List ℕ → Call → FileTables → Step
+releases_to t client row act owner call f =
+    let knocked = knocks_to requests_limit f (place_of client f.fs f.first t.known.places) in
+    released_to (record {
+      files = slice_set t.files (fs_of act) knocked.file;
+      known = record t.known { places = sent_to client f.fs knocked.server t.known.places };
+    }) client row act owner call knocked.server knocked.door (let_in knocked.door)
+
+unfoldable pub told_found : TablesNow → ℕ → ClientRow → Action → Call → FileTables → Option (List ℕ) → Step
+told_found t client row act call f None = told_tried t row act (tries_to f client row act call t.known)
+told_found t client row act call f (Some owner) = releases_to t client row act owner call f
+
 unfoldable pub told_call : TablesNow → ℕ → ClientRow → Action → Option Call → Option FileTables → Step
 told_call t client row act None f = record { rows = outcome row act told.NoState ∷ []; next = t }
 told_call t client row act (Some call) None = says_nothing t
-told_call t client row act (Some call) (Some f) = told_tried t row act (tries_to f client row act call t.known)
+told_call t client row act (Some call) (Some f) = told_found t client row act call f (released_by act)
 
 unfoldable pub told_act : TablesNow → ℕ → ClientRow → Action → Step
 told_act t client row act = told_call t client row act (call_of client row t.known act) (slice_get t.files (fs_of act))

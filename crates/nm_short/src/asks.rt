@@ -4,15 +4,15 @@ ghost use Rattle.nm_rules.specs.Answer.{refused_value};
 ghost use Rattle.nm_rules.specs.declared.calls.Verdict.TheVariants.{Pass};
 ghost use Rattle.nm_slot.specs.Answers.{apply_answer};
 ghost use Rattle.nm_slot.specs.SlotNow.SlotStep.{Applying};
-ghost use Rattle.nm_short.specs.Files.{asked_in, knocked_to, sent_on};
-ghost use Rattle.nm_short.specs.Known.{sent_to, put_down, taken_up};
+ghost use Rattle.nm_short.specs.Files.{asked_in, freed_in, knocked_to, sent_on};
+ghost use Rattle.nm_short.specs.Known.{place_of, sent_to, put_down, taken_up};
 ghost use Rattle.nm_short.specs.Runs.{tried_to};
-ghost use Rattle.nm_short.specs.Requests.{requests_limit, reply_of, last_cookie, more_of, confirms, opening_goes_on, listing_goes_on, tests, goes_on_with, names_of, told_ok, told_refused, told_by, unknown_status};
-ghost use Rattle.nm_short.specs.Tables.{knocks_to, asks_to, asked_to, calls_to, door_to, tries_to, slot_in, stepped};
+ghost use Rattle.nm_short.specs.Requests.{requests_limit, reply_of, last_cookie, more_of, confirms, opening_goes_on, listing_goes_on, tests, goes_on_with, names_of, told_ok, told_refused, told_by, freed_by, unknown_status};
+ghost use Rattle.nm_short.specs.Tables.{knocks_to, asks_to, asked_to, calls_to, door_to, tries_to, frees_within_to, frees_after_to, frees_to, slot_in, stepped};
 
 use crate::clients::{Clients, seqid_after};
 use crate::files::FileSlots;
-use crate::locking::make_test;
+use crate::locking::{Freed, make_test};
 use crate::sends::{make_confirm, make_list};
 use nm_rules::{
     Action, Call, Deed, DirEntry, Instance, Items, LockOutcome, Memory, OpStatus, OpenArgs, Opened,
@@ -266,6 +266,18 @@ fn told_by(reply: Reply, names: Names) -> Told
     }
 }
 
+// What a call's status leaves of a release.
+#[tactic(auto, unfolding(crate::specs::Requests::freed_by))]
+fn freed_by(status: OpStatus) -> Freed
+    ensures { result ≡ freed_by status }
+{
+    if status.is_done() {
+        Freed::On
+    } else {
+        Freed::Ends(status)
+    }
+}
+
 impl FileSlots {
     // Knocks at a server, and where it is sent elsewhere, there.
     fn knock(&mut self, from: ServerNum) -> Knocked
@@ -377,9 +389,9 @@ impl FileSlots {
         Ok(self.tell(clients, asked, client, action)?)
     }
 
-    // What comes of the door's answer.
+    /// What comes of the door's answer. After want of memory nothing is promised of the file system, nor of what clients know.
     #[tactic(auto, unfolding(crate::specs::Tables::door_to))]
-    fn pass_door(
+    pub fn pass_door(
         &mut self,
         clients: &mut Clients,
         knocked: Knocked,
@@ -419,6 +431,52 @@ impl FileSlots {
         }
     }
 
+    /// Knocks where a client believes the file system to be, which is then where it knocked last. After want of memory nothing is
+    /// promised of what clients know.
+    pub fn knock_for(&mut self, clients: &mut Clients, client: u32) -> Result<Knocked, Memory>
+        ensures knocked { IfOk result (λ knocked. knocked_to knocked self.new ≡ knocks_to requests_limit self.old (place_of client self.old.fs self.old.first clients.old.places)) }
+        ensures known { IfOk result (λ knocked. clients.new ≡ record clients.old { places = sent_to client self.old.fs knocked.server clients.old.places }) }
+    {
+        let fs = self.fs();
+        let from = clients.place_of(client, fs, self.first);
+        let knocked = self.knock(from);
+        clients.send_to(client, fs, knocked.server)?;
+        Ok(knocked)
+    }
+
+    // Makes a release with a pass, and gives it back.
+    #[tactic(auto, unfolding(crate::specs::Tables::frees_within_to))]
+    fn free_within(&mut self, server: ServerNum, pass: FsPass, call: &Call) -> Result<Freed, Memory>
+        ensures { IfOk result (λ freed. freed_in freed self.new ≡ frees_within_to self.old server pass.epoch call.now) }
+    {
+        let answer = self.apply(server, &pass, call)?;
+        self.leave(server, pass);
+        let reply = reply_of(self.alloc, call, answer);
+        Ok(freed_by(reply.status))
+    }
+
+    // What comes of a release by the door's answer.
+    #[tactic(auto, unfolding(crate::specs::Tables::frees_after_to))]
+    fn free_after(&mut self, server: ServerNum, call: &Call, answer: Enter) -> Result<Freed, Memory>
+        ensures { IfOk result (λ freed. freed_in freed self.new ≡ frees_after_to self.old server call.now answer) }
+    {
+        match answer {
+            Enter::Entered(pass) => Ok(self.free_within(server, pass, call)?),
+            Enter::Moved { .. } | Enter::Unknown => Ok(Freed::On),
+            Enter::Full { .. } => Ok(Freed::Ends(OpStatus::Resource)),
+            Enter::Delay => Ok(Freed::Waits),
+        }
+    }
+
+    /// Makes a release at a server, where the file system is there. After want of memory nothing is promised of it.
+    #[tactic(auto, unfolding(crate::specs::Tables::frees_to))]
+    pub fn free(&mut self, server: ServerNum, call: &Call) -> Result<Freed, Memory>
+        ensures { IfOk result (λ freed. freed_in freed self.new ≡ frees_to self.old server call.now) }
+    {
+        let answer = self.enter(server);
+        Ok(self.free_after(server, call, answer)?)
+    }
+
     /// A client's call, and those that go on with it, made where the file system is. After want of memory nothing is promised
     /// of the file system, nor of what clients know.
     #[tactic(auto, unfolding(crate::specs::Tables::tries_to))]
@@ -433,10 +491,7 @@ impl FileSlots {
         requires { length row.now.name ≤ 16 }
         ensures { IfOk result (λ told. tried_to told self.new clients.new ≡ tries_to self.old client row.now action.now call.now clients.old) }
     {
-        let fs = self.fs();
-        let from = clients.place_of(client, fs, self.first);
-        let knocked = self.knock(from);
-        clients.send_to(client, fs, knocked.server)?;
+        let knocked = self.knock_for(clients, client)?;
         Ok(self.pass_door(clients, knocked, client, row, action, call)?)
     }
 }

@@ -62,7 +62,7 @@ pub struct Clients {
     held: Vec<Holding>,
     /// Those of lock owners.
     pub(crate) locks: Vec<Holding>,
-    places: Vec<Believed>,
+    pub(crate) places: Vec<Believed>,
     in_hand: Vec<InHand>,
 }
 

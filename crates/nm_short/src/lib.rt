@@ -11,6 +11,7 @@ mod laws;
 mod locking;
 mod names;
 mod orders;
+mod releases;
 mod run;
 mod sends;
 mod slots;

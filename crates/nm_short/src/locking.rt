@@ -1,16 +1,43 @@
 //! What the clients of a script know of byte-range locks, and what they send for them.
 ghost use Rattle.std.specs.Prelude.{◌≡◌, ◌≤◌, length, IfOk, OnOk, option_copied, option_map};
-ghost use Rattle.nm_short.specs.Known.{seqid_of, held_of, told_lock, holds_lock, started_on, learned_by, learned_lock, learned_unlock, locker_for, type_of, lock_call, locking_call, unlock_call, lookup_call, test_call, release_call};
+ghost use Rattle.nm_short.specs.Requests.{frees_more};
+ghost use Rattle.nm_short.specs.Known.{is_believed, is_released, still_held, known_freed, seqid_of, held_of, told_lock, holds_lock, started_on, learned_by, learned_lock, learned_unlock, locker_for, type_of, lock_call, locking_call, unlock_call, lookup_call, test_call, release_call};
 
-use crate::clients::{Clients, Holding, OwnerSeqid, find_held, find_seqid, hold_now, move_on};
+use crate::clients::{
+    Believed, Clients, Holding, OwnerSeqid, find_held, find_seqid, hold_now, move_on,
+};
 use crate::sends::{instance_of, text_of_owner};
 use nm_rules::{
-    Bytes, Call, Deed, FsNum, LockAction, LockArgs, LockKind, LockOutcome, LockTestArgs, LockType,
-    Locker, LookupArgs, Memory, OpStatus, ReleaseAction, ReleaseLockOwnerArgs, Reply, ReplyValue,
-    StateId, StateRef, UnlockAction, UnlockArgs,
+    Action, Bytes, Call, Deed, FsNum, LockAction, LockArgs, LockKind, LockOutcome, LockTestArgs,
+    LockType, Locker, LookupArgs, Memory, OpStatus, ReleaseAction, ReleaseLockOwnerArgs, Reply,
+    ReplyValue, ServerNum, StateId, StateRef, UnlockAction, UnlockArgs,
 };
 use nm_script::ClientRow;
 use std::alloc::Global;
+
+/// What came of a release of a lock owner in a file system.
+#[derive(Clone, Copy, Debug, PartialEq, Eq)]
+pub enum Freed {
+    /// It was OK, or nothing is there: the next one comes.
+    On,
+    /// It is on its way.
+    Waits,
+    /// It was refused, which is the answer.
+    Ends(OpStatus),
+}
+
+impl Freed {
+    /// Whether the next file system comes.
+    #[tactic(auto, unfolding(crate::specs::Requests::frees_more))]
+    pub fn frees_more(&self) -> bool
+        ensures { result ≡ frees_more self.now }
+    {
+        match self {
+            Freed::On => true,
+            Freed::Waits | Freed::Ends(_) => false,
+        }
+    }
+}
 
 // The stateid of a lock owner that a reply tells anew.
 #[tactic(auto, unfolding(crate::specs::Known::told_lock))]
@@ -56,6 +83,37 @@ fn start_on(
         move_on(rows, client, fs, owner, status)?;
     }
     Ok(())
+}
+
+// A client believes a file system to be at that server.
+#[tactic(auto, unfolding(crate::specs::Known::is_believed))]
+fn is_believed(places: &[Believed], client: u32, fs: FsNum, at: ServerNum) -> bool
+    ensures { result ≡ is_believed client fs at places.now }
+{
+    places
+        .iter()
+        .any(|row| row.client == client && row.fs == fs && row.at == at)
+}
+
+// A release of that owner at a server ends what the client holds so.
+fn is_released(row: &Holding, places: &[Believed], client: u32, owner: &[u8], at: ServerNum) -> bool
+    ensures { result ≡ is_released client owner.now at places.now row.now }
+{
+    row.client == client && row.owner.items() == owner && is_believed(places, client, row.fs, at)
+}
+
+// What a release of that owner at a server leaves in the clients' hands.
+#[tactic(auto, unfolding(crate::specs::Known::still_held))]
+fn drop_released(
+    rows: &mut Vec<Holding>,
+    places: &[Believed],
+    client: u32,
+    owner: &[u8],
+    at: ServerNum,
+)
+    ensures { rows.new.items ≡ still_held client owner.now at places.now rows.old.items }
+{
+    rows.retain(|row| !is_released(row, places, client, owner, at));
 }
 
 // The type of a lock.
@@ -268,6 +326,32 @@ impl Clients {
         match self.lock_held_of(client, a.fs, &a.owner, &a.file) {
             Some(lock) => Ok(Some(make_unlock(self.alloc, client, row, a, seqid, lock)?)),
             None => Ok(None),
+        }
+    }
+
+    /// What came of a release of an owner at a server. After want of memory nothing is promised of what is known.
+    #[tactic(auto, unfolding(crate::specs::Known::known_freed))]
+    pub fn learn_freed(
+        &mut self,
+        client: u32,
+        action: &Action,
+        owner: &Bytes,
+        at: ServerNum,
+        freed: Freed,
+    ) -> Result<(), Memory>
+        ensures { OnOk result (self.new ≡ known_freed client action.now owner.now at freed self.old) }
+    {
+        match freed {
+            Freed::On => {
+                drop_released(&mut self.locks, &self.places, client, owner.items(), at);
+                self.put_down(client);
+                Ok(())
+            }
+            Freed::Waits => Ok(self.take_up(client, action)?),
+            Freed::Ends(_) => {
+                self.put_down(client);
+                Ok(())
+            }
         }
     }
 

@@ -12,6 +12,7 @@ ghost use Rattle.nm_short.specs.Tables.{AreShort, told_call, told_act, told_star
 use crate::clients::Clients;
 use crate::files::FileSlots;
 use crate::orders::{Order, single};
+use crate::releases::released_by;
 use nm_rules::{Action, Call, FsNum, Items, Memory, ServerNum};
 use nm_script::{
     ClientRow, Head, IdleRow, Line, OutcomeRow, Report, ReportRow, Script, Told, append_line_text,
@@ -23,9 +24,9 @@ use std::marker::Model;
 /// What the servers of a script have, and what its clients know.
 #[derive(Debug, Drop)]
 pub struct Run {
-    alloc: Global,
-    files: Vec<FileSlots>,
-    clients: Clients,
+    pub(crate) alloc: Global,
+    pub(crate) files: Vec<FileSlots>,
+    pub(crate) clients: Clients,
 }
 
 impl Model for Run {
@@ -36,8 +37,13 @@ impl Model for Run {
     ghost view = { λ r. record { files = r.files.items; known = r.clients } };
 }
 
-// What came of a client's action.
-fn outcome_of(alloc: Global, row: &ClientRow, action: &Action, told: Told) -> Result<Report, Memory>
+/// What came of a client's action.
+pub fn outcome_of(
+    alloc: Global,
+    row: &ClientRow,
+    action: &Action,
+    told: Told,
+) -> Result<Report, Memory>
     ensures { IfOk result (λ report. report ≡ outcome row.now action.now told ∷ []) }
 {
     let client = row.name.copy()?;
@@ -96,7 +102,7 @@ impl Run {
     }
 
     // A client's call.
-    #[tactic(auto, unfolding(crate::specs::Tables::told_call))]
+    #[tactic(auto, unfolding(crate::specs::Tables::told_call, crate::specs::Tables::told_found, crate::specs::Tables::releases_to))]
     fn make_call(
         &mut self,
         client: u32,
@@ -111,8 +117,16 @@ impl Run {
         if at >= self.files.len() {
             return Ok(Items::new(self.alloc));
         }
-        let told = self.files[at].tries(&mut self.clients, client, row, action, call)?;
-        Ok(outcome_of(self.alloc, row, action, told)?)
+        match released_by(action) {
+            Some(owner) => {
+                let knocked = self.files[at].knock_for(&mut self.clients, client)?;
+                Ok(self.release(client, row, action, owner, call, knocked)?)
+            }
+            None => {
+                let told = self.files[at].tries(&mut self.clients, client, row, action, call)?;
+                Ok(outcome_of(self.alloc, row, action, told)?)
+            }
+        }
     }
 
     // A client's action.
