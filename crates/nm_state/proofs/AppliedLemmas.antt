@@ -1,6 +1,6 @@
 -- What an operation that nothing stops leaves.
 use Rattle.std.proofs.Common.{◌≡◌, ℕ, ◌+◌, Bool, true, false, cond, Option, Some, None, refl, ap, sym, ◌∙◌}
-use Rattle.nm_rules.specs.Attributes.{Asks, asked_mode, asked_size, asks_of, has_size, set_words}
+use Rattle.nm_rules.specs.Attributes.{asked_mode, asked_size, asks_of, has_size, set_words}
 use Rattle.nm_rules.specs.Checks.{Checks, first}
 use Rattle.nm_rules.specs.Contents.TreeWord.{Made, Removed}
 use Rattle.nm_rules.specs.Data.{mode_checks, set_limit, setattr_checks, setattr_value, size_checks, write_checks, write_limit, write_value}

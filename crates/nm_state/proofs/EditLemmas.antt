@@ -1,10 +1,8 @@
 -- What nothing stops is within the limits, and has room.
-use Rattle.std.proofs.Common.{◌≡◌, ℕ, ◌+◌, ◌-◌, ◌<◌, ◌≤◌, ◌^◌, Bool, true, false, cond, List, [], ◌∷◌, Option, Some, None, refl, ap, sym, ◌∙◌, arith, length}
+use Rattle.std.proofs.Common.{◌≡◌, ℕ, ◌+◌, ◌-◌, ◌<◌, ◌≤◌, ◌^◌, Bool, true, false, cond, Option, Some, None, refl, ap, arith, length}
 use Rattle.std.specs.Prelude.{not, ◌&&◌, ◌||◌, nat_le, nat_lt, max, IfSome}
-use Rattle.std.specs.Option.{option_or}
 use Rattle.std.proofs.lemmas.Bool.Decides.{nat_tests}
 use Rattle.nm_rules.specs.Attributes.{Asks, asked_mode, asked_size, set_words, sets_any}
-use Rattle.nm_rules.specs.Checks.{refuse_if}
 use Rattle.nm_rules.specs.Contents.{file_at, files_limit, size_limit, taken, total_limit, total_size}
 use Rattle.nm_rules.specs.Data.{set_limit, write_limit, written_size}
 use Rattle.nm_rules.specs.Files.{changes_past_end, current, fills_up, makes_past_end, size_of, sized_limit}

@@ -1,21 +1,21 @@
 -- What operations on byte-range locks are refused with, and what they leave.
 use Rattle.std.proofs.Common.{◌≡◌, ℕ, ◌+◌, ◌<◌, Bool, true, false, cond, List, [], ◌∷◌, Option, Some, None, refl, ap, sym, subst, ◌∙◌, arith}
-use Rattle.std.specs.Prelude.{◌==◌, ◌&&◌, ◌^◌, ◌-◌, ◌%◌, not, nat_le, IsSome, option_map, find}
+use Rattle.std.specs.Prelude.{◌==◌, ◌&&◌, ◌^◌, ◌-◌, ◌%◌, nat_le, IsSome, option_map, find}
 use Rattle.std.specs.Option.{option_or}
 use Rattle.std.proofs.lemmas.Bool.Decides.{nat_tests}
-use Rattle.nm_rules.specs.Answer.{answer_to, checks, is_denial, refusal_value, refused_value, reply_by, reply_with}
-use Rattle.nm_rules.specs.Checks.{Checks, Stop, behind_seqid, first, is_dir, lease_stop, missing_stop, refusal, refuse_if}
+use Rattle.nm_rules.specs.Answer.{answer_to, checks, is_denial, reply_by, reply_with}
+use Rattle.nm_rules.specs.Checks.{behind_seqid, first, is_dir, lease_stop, missing_stop, refusal, refuse_if}
 use Rattle.nm_rules.specs.Checks.Stop.{Refuse}
 use Rattle.nm_rules.specs.Contents.{tree_after}
 use Rattle.nm_rules.specs.Files.{current}
 use Rattle.nm_rules.specs.LockAsks.{access_for, counter_of, is_no_range, kind_of, last_of, lock_owner, range_stop}
-use Rattle.nm_rules.specs.LockOps.{changed_lock, denied_stop, denied_told, in_the_way, known_checks, lock_checks, lock_denied, lock_fault, locked_stateid, locker_counter, new_checks, new_limit, next_lock_stateid, ranges_with, release_checks, rows_stop, rows_with_known, test_barrier, test_checks, test_denied, unlock_checks}
-use Rattle.nm_rules.specs.LockRows.{claim_if, clear_if, lock_at, locks_after, ranges_after, ranges_on, renewed_lock}
+use Rattle.nm_rules.specs.LockOps.{changed_lock, denied_stop, denied_told, in_the_way, lock_checks, lock_denied, lock_fault, locked_stateid, locker_counter, new_limit, next_lock_stateid, ranges_with, release_checks, rows_stop, rows_with_known, test_barrier, test_checks, test_denied, unlock_checks}
+use Rattle.nm_rules.specs.LockRows.{claim_if, clear_if, lock_at, ranges_on, renewed_lock}
 use Rattle.nm_rules.specs.Locks.{barrier}
 use Rattle.nm_rules.specs.Parties.{Party}
-use Rattle.nm_rules.specs.Past.{closed_by, deed_words, noted_row, seqid_owner, started_by, with_owners}
+use Rattle.nm_rules.specs.Past.{closed_by, seqid_owner, started_by}
 use Rattle.nm_rules.specs.Seen.{Seen, after_words, look}
-use Rattle.nm_rules.specs.Seqids.{closed_after, owner_at, owners_after}
+use Rattle.nm_rules.specs.Seqids.{closed_after, owners_after}
 use Rattle.nm_rules.specs.Seqids.OwnerWord.{Gone, Stays}
 use Rattle.nm_rules.specs.Shares.{opens_after}
 use Rattle.nm_rules.specs.Stateids.{given_seqid, is_owner_confirmed, live_stop, lock_live_stop, lock_named, lock_stop, mode_stop, open_named, opened_access, seqid_stop, stateid_stop}

@@ -1,33 +1,28 @@
 -- The tables after an answer are those that the code leaves.
-use Rattle.std.proofs.Common.{◌≡◌, ℕ, ◌+◌, Bool, true, false, cond, List, Option, Some, None, refl, ap, sym, subst, ◌∙◌, arith}
-use Rattle.std.specs.Prelude.{is_none, unwrap_or, IsSome, ◌&&◌, ◌||◌, ◌<◌, ◌≤◌, ◌-◌, ◌^◌, nat_le, nat_lt}
+use Rattle.std.proofs.Common.{◌≡◌, ℕ, ◌+◌, Bool, true, false, cond, Option, Some, None, refl, ap, sym, subst, ◌∙◌, arith}
+use Rattle.std.specs.Prelude.{is_none, unwrap_or, ◌&&◌, ◌||◌, ◌<◌, ◌≤◌, ◌-◌, ◌^◌, nat_le, nat_lt}
 use Rattle.std.proofs.lemmas.Bool.{true≢false}
 use Rattle.std.proofs.lemmas.Bool.Decides.{nat_tests}
 use Rattle.nm_rules.specs.Parties.{Party}
 use Rattle.nm_rules.specs.Attributes.{asked_size}
-use Rattle.nm_rules.specs.Contents.{TreeWord, file_at, child_at, tree_after, size_limit, total_limit, total_size}
-use Rattle.nm_rules.specs.Shares.{open_at, open_of, put_open, opens_after}
-use Rattle.nm_rules.specs.LockRows.{locks_after, ranges_after}
-use Rattle.nm_rules.specs.Past.{Now, Words, words, no_words, with_owners, is_done, deed_words, judgement_for, noted, owner_word, seqid_owner, started_by, claimed_name, claimed_in, opener, open_tree, opentype_asks, cuts}
+use Rattle.nm_rules.specs.Contents.{tree_after, size_limit, total_limit, total_size}
+use Rattle.nm_rules.specs.Shares.{open_of}
+use Rattle.nm_rules.specs.Past.{Now, words, no_words, with_owners, is_done, deed_words, judgement_for, noted, owner_word, seqid_owner, started_by, opener, open_tree, opentype_asks, cuts}
 use Rattle.nm_rules.specs.Seqids.{OwnerWord, advances, closed_after, owners_after}
 use Rattle.nm_rules.specs.Seqids.OwnerWord.{Stays}
 use Rattle.nm_rules.specs.Seen.{Seen, look, after, after_words, empty}
 use Rattle.nm_rules.specs.Opens.{GoesOpen, file_to_open, target, tree_limit}
 use Rattle.nm_rules.specs.Answer.{answer_to, reply_by, reply_with, refused_value, refusal_value, denied_value, is_denial, ok_value, checks}
-use Rattle.nm_rules.specs.Checks.{Stop, first, refusal, refuse_if}
+use Rattle.nm_rules.specs.Checks.{Stop, first, refuse_if}
 use Rattle.nm_rules.specs.Files.{changes_past_end, sized_limit}
 use Rattle.nm_rules.proofs.Classes.{or_none, refuse_if-none}
 use Rattle.nm_rules.specs.Checks.Stop.{Refuse}
-use Rattle.nm_rules.specs.Sound.{IsSound, rises}
+use Rattle.nm_rules.specs.Sound.{IsSound}
 use Rattle.nm_rules.specs.declared.calls.Call.{Call}
-use Rattle.nm_rules.specs.declared.calls.Owner.{Owner}
 use Rattle.nm_rules.specs.declared.calls.Deed.{Deed}
 use Rattle.nm_rules.specs.declared.calls.Deed.TheVariants as deed
 use Rattle.nm_rules.specs.declared.args.OpenArgs.{OpenArgs}
-use Rattle.nm_rules.specs.declared.args.CloseArgs.{CloseArgs}
 use Rattle.nm_rules.specs.declared.args.OpenType.{OpenType}
-use Rattle.nm_rules.specs.declared.calls.StateId.{StateId}
-use Rattle.nm_rules.specs.declared.results.Opened.{Opened}
 use Rattle.nm_rules.specs.declared.calls.Verdict.{Verdict}
 use Rattle.nm_rules.specs.declared.calls.Event.TheVariants.{Asked, Ended}
 use Rattle.nm_rules.specs.declared.calls.Event.{Event}
@@ -36,12 +31,10 @@ use Rattle.nm_rules.specs.declared.calls.ReplyValue.TheVariants as told
 use Rattle.nm_rules.specs.declared.calls.ReplyValue.{ReplyValue}
 use Rattle.nm_rules.specs.declared.status.OpStatus.{OpStatus}
 use Rattle.nm_rules.specs.declared.status.OpStatus.TheVariants.{Nfs4Ok, FBig, NoSpc, Resource, Denied as DeniedStatus}
-use Rattle.nm_rules.specs.declared.rows.OpenRow.{OpenRow}
 use Rattle.nm_rules.proofs.Legal.{words-refused, sound-after}
 use Rattle.nm_rules.proofs.OwnerLaws.{same-after}
-use Rattle.nm_shares.specs.Rows.{row_to_take, last_after}
 use Rattle.nm_state.specs.State.{StateNow, ended}
-use Rattle.nm_state.specs.Opening.{open_word, after_word, after_taking, after_open, after_end, Applied, HasRoom}
+use Rattle.nm_state.specs.Opening.{open_word, after_word, after_end, Applied, HasRoom}
 
 -- what a call is answered, by what stops it
 pub stopped_answer : (s : Seen) (call : Call) (verdict : Verdict) (x : Option Stop) → first (checks s call.caller call.file verdict call.deed) ≡ x

@@ -1,9 +1,9 @@
 -- The ranges of files: how they are found, counted and changed.
-use Rattle.std.proofs.Common.{◌≡◌, ◌<◌, ◌≤◌, ℕ, ◌+◌, Bool, true, false, cond, List, [], ◌∷◌, ◌++◌, Option, Some, None, refl, ap, sym, subst, ◌∙◌, suc, arith, length, take, drop, get_or, set}
+use Rattle.std.proofs.Common.{◌≡◌, ◌<◌, ◌≤◌, ℕ, ◌+◌, Bool, true, false, cond, List, [], ◌∷◌, ◌++◌, Some, None, refl, ap, sym, subst, ◌∙◌, suc, arith, length, take, drop, get_or, set}
 use Rattle.std.proofs.lemmas.List.{drop_all, drop_more as drop_more_list, take_more}
 use Rattle.std.proofs.lemmas.Bool.Decides.{nat_tests}
-use Rattle.std.specs.Prelude.{◌==◌, ◌&&◌, ◌||◌, not, min, nat_lt, filter, find}
-use Rattle.std.specs.List.{list_any, position, position_or_len}
+use Rattle.std.specs.Prelude.{◌==◌, ◌&&◌, ◌||◌, not, nat_lt, filter, find}
+use Rattle.std.specs.List.{position, position_or_len}
 use Rattle.nm_rules.specs.LockRows.{is_held_by, is_of, put_file, put_lock, put_ranges, ranges_on, ranges_taken}
 use Rattle.nm_rules.specs.Locks.{barrier, cleared, dropped, is_before, joined, joined_after, put_range, set_to, touches}
 use Rattle.nm_rules.specs.Opens.{rows_limit}

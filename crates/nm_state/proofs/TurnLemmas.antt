@@ -2,17 +2,17 @@
 use Rattle.std.proofs.Common.{◌≡◌, ℕ, Bool, true, false, cond, List, Option, Some, None, refl, ap, sym, subst, ◌∙◌}
 use Rattle.std.specs.Prelude.{◌==◌, ◌||◌, not, nat_le, option_map}
 use Rattle.std.specs.Option.{option_or}
-use Rattle.nm_rules.specs.Answer.{answer_to, checks, is_denial, ok_value, refused_value, refusal_value, reply_by, reply_with}
+use Rattle.nm_rules.specs.Answer.{answer_to, checks, refused_value, refusal_value, reply_by, reply_with}
 use Rattle.nm_rules.specs.Checks.{Checks, Stop, behind_seqid, first, refusal}
 use Rattle.nm_rules.specs.Checks.Stop.{Refuse, Repeat}
 use Rattle.nm_rules.specs.Lists.{is_empty}
 use Rattle.nm_rules.specs.LockAsks.{lock_owner}
-use Rattle.nm_rules.specs.LockOps.{is_out_of_turn, lock_checks, newcomer_stop, unlock_checks}
-use Rattle.nm_rules.specs.LockRows.{lock_at, locks_after, ranges_after}
+use Rattle.nm_rules.specs.LockOps.{lock_checks, newcomer_stop, unlock_checks}
+use Rattle.nm_rules.specs.LockRows.{lock_at}
 use Rattle.nm_rules.specs.Opens.{claim_unresolved, close_checks, confirm_checks, downgrade_checks, open_checks, rows_limit, rows_taken, GoesOpen}
 use Rattle.nm_rules.specs.Parties.{Party}
-use Rattle.nm_rules.specs.Past.{Now, Words, acts, confirms, set_tree, closed_by, deed_words, is_done, judgement, lock_named_by, lock_owner_named, named_by, no_words, noted, noted_row, opener, owner_named, owner_word, seqid_owner, started_by, with_owners, words}
-use Rattle.nm_rules.specs.Seen.{Seen, after, after_words, look}
+use Rattle.nm_rules.specs.Past.{Now, Words, confirms, set_tree, closed_by, deed_words, is_done, judgement, lock_named_by, lock_owner_named, named_by, no_words, noted, noted_row, opener, owner_named, owner_word, seqid_owner, started_by, with_owners, words}
+use Rattle.nm_rules.specs.Seen.{Seen, after_words, look}
 use Rattle.nm_rules.specs.Owners.{same_owner}
 use Rattle.nm_rules.specs.Seqids.{OwnerWord, advances, closed_after, is_confirmed, is_fresh, judged, owner_at, owner_left, owners_after, seqid_of, without_recalls}
 use Rattle.nm_rules.specs.Seqids.OwnerWord.{Noted, Stays}
@@ -23,7 +23,6 @@ use Rattle.nm_rules.specs.declared.args.Claim.TheVariants.{Null, Previous, Deleg
 use Rattle.nm_rules.specs.declared.args.CloseArgs.{CloseArgs}
 use Rattle.nm_rules.specs.declared.args.LockArgs.{LockArgs}
 use Rattle.nm_rules.specs.declared.args.LockTestArgs.{LockTestArgs}
-use Rattle.nm_rules.specs.declared.args.Locker.{Locker}
 use Rattle.nm_rules.specs.declared.args.Locker.TheVariants.{New, Known}
 use Rattle.nm_rules.specs.declared.args.OpenArgs.{OpenArgs}
 use Rattle.nm_rules.specs.declared.args.OpenConfirmArgs.{OpenConfirmArgs}
@@ -48,8 +47,8 @@ use Rattle.nm_rules.specs.declared.results.LockOutcome.TheVariants.{Denied as Is
 use Rattle.nm_rules.specs.declared.rows.LockRow.{LockRow}
 use Rattle.nm_rules.specs.declared.rows.OpenRow.{OpenRow}
 use Rattle.nm_rules.specs.declared.status.OpStatus.{OpStatus}
-use Rattle.nm_rules.specs.declared.status.OpStatus.TheVariants.{BadSeqid, BadStateId, Nfs4Ok, StaleClientId}
-use Rattle.nm_rules.proofs.Legal.{SeqidTells, open_goes, repeat_is_old, seqid_tells, words-refused}
+use Rattle.nm_rules.specs.declared.status.OpStatus.TheVariants.{BadSeqid, BadStateId, StaleClientId}
+use Rattle.nm_rules.proofs.Legal.{SeqidTells, open_goes, repeat_is_old, seqid_tells}
 use Rattle.nm_rules.proofs.OwnerLaws.{old-after, same-after}
 use Rattle.nm_rules.proofs.OwnerLemmas.{same_owner-Decides}
 use Rattle.nm_rules.proofs.OwnerRows.{owner_by-after}

@@ -3,9 +3,9 @@ use Rattle.std.proofs.Common.{◌≡◌, ℕ, ◌+◌, Bool, true, false, cond, 
 use Rattle.std.specs.Prelude.{IfSome, IsSome, option_map}
 use Rattle.std.proofs.lemmas.Bool.{not-false}
 use Rattle.nm_rules.specs.Answer.{checks, refused_value, reply_by, reply_with}
-use Rattle.nm_rules.specs.Checks.{Checks, Stop, behind_seqid, first, refusal}
+use Rattle.nm_rules.specs.Checks.{Checks, behind_seqid, refusal}
 use Rattle.nm_rules.specs.Contents.{file_at, tree_after}
-use Rattle.nm_rules.specs.Opens.{changed_stateid, close_checks, confirm_checks, downgrade_checks, file_to_open, is_narrower, next_stateid, open_checks, open_value, row_to_open, target}
+use Rattle.nm_rules.specs.Opens.{changed_stateid, close_checks, confirm_checks, downgrade_checks, file_to_open, is_narrower, next_stateid, open_checks, open_value, row_to_open}
 use Rattle.nm_rules.specs.Parties.{Party}
 use Rattle.nm_rules.specs.LockRows.{locks_after, ranges_after}
 use Rattle.nm_rules.specs.LockRows.LockWord.{ClosedWith}

@@ -1,5 +1,5 @@
 -- Byte-range locks: what refuses them, and what one that acts leaves.
-use Rattle.std.specs.Prelude.{◌≡◌, ◌==◌, ℕ, ◌+◌, Bool, List, Option, Some, None, option_map}
+use Rattle.std.specs.Prelude.{◌≡◌, ◌==◌, ℕ, ◌+◌, Bool, Option, Some, None, option_map}
 use Rattle.std.specs.Option.{option_or}
 use Rattle.nm_rules.specs.Answer.{reply_with}
 use Rattle.nm_rules.specs.Checks.{lease_stop, missing_stop, is_dir, refuse_if}

@@ -1,5 +1,5 @@
 -- Whether it is an operation's turn: what its stateid and its owner's seqid say before all other classes (RFC 7530, 9.1.7).
-use Rattle.std.specs.Prelude.{◌≡◌, ℕ, Bool, false, List, Option, Some, None, nat_le, if◌then◌else◌}
+use Rattle.std.specs.Prelude.{◌≡◌, ℕ, Bool, false, Option, Some, None, nat_le, if◌then◌else◌}
 use Rattle.nm_rules.specs.Parties.{Party}
 use Rattle.nm_rules.specs.Checks.{Checks, Stop, behind_seqid, refusal}
 use Rattle.nm_rules.specs.Checks.Stop.{Refuse, Repeat}

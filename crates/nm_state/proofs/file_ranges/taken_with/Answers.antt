@@ -1,4 +1,4 @@
-use Rattle.std.proofs.Common.{sym, ◌∙◌}
+use Rattle.std.proofs.Common.{◌∙◌}
 use Rattle.nm_state.proofs.RangeLemmas.{taken_end, taken_step}
 use Rattle.nm_state.proofs.file_ranges.taken_with.Goals as goal
 

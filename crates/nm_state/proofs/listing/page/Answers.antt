@@ -1,4 +1,4 @@
-use Rattle.std.proofs.Common.{◌≡◌, ◌<◌, ◌≤◌, true, false, drop, rules, subst, arith, length}
+use Rattle.std.proofs.Common.{◌≡◌, ◌<◌, ◌≤◌, true, false, rules, subst}
 use Rattle.std.proofs.lemmas.List.{drop_all}
 use Rattle.nm_rules.specs.Files.{entry_size, is_listed}
 use Rattle.nm_state.specs.Pages.{IsFront}
