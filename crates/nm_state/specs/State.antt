@@ -2,7 +2,7 @@
 use Rattle.std.specs.Prelude.{◌≡◌, ℕ, Bool, true, false, Option, Some, None, Result, Ok, Err}
 use Rattle.nm_rules.specs.Parties.{Party}
 use Rattle.nm_rules.specs.Seen.{Seen, empty, after}
-use Rattle.nm_rules.specs.Stateids.{resolved}
+use Rattle.nm_rules.specs.Stateids.{lock_named, resolved}
 use Rattle.nm_rules.specs.Answer.{answer_to}
 use Rattle.nm_rules.specs.declared.calls.Event.{Event}
 use Rattle.nm_rules.specs.declared.calls.Event.TheVariants.{Ended}
@@ -10,6 +10,7 @@ use Rattle.nm_rules.specs.declared.calls.Reply.{Reply}
 use Rattle.nm_rules.specs.declared.calls.StateId.{StateId}
 use Rattle.nm_rules.specs.declared.calls.StateRef.TheVariants.{Named}
 use Rattle.nm_rules.specs.declared.memory.Memory.{Memory}
+use Rattle.nm_rules.specs.declared.rows.LockRow.{LockRow}
 use Rattle.nm_rules.specs.declared.rows.OpenRow.{OpenRow}
 use Rattle.nm_rules.specs.declared.status.OpStatus.{OpStatus}
 use Rattle.nm_rules.specs.declared.status.OpStatus.TheVariants.{BadStateId}
@@ -38,10 +39,11 @@ Answers now event (Err _) = Unit {0}
 abbrev pub ended : StateNow → Party → StateNow
 ended now party = record { seen = after now.seen (Ended party) (answer_to now.seen (Ended party)); spent = now.spent }
 
--- the instance of the owner whose open a stateid stands for
-abbrev pub holder_in : Option OpenRow → Result Party OpStatus
-holder_in None = Err BadStateId
-holder_in (Some row) = Ok row.owner.instance
+-- the instance of the owner whose open or locks a stateid stands for
+abbrev pub holder_in : Option OpenRow → Option LockRow → Result Party OpStatus
+holder_in None None = Err BadStateId
+holder_in None (Some lock) = Ok lock.owner.instance
+holder_in (Some row) lock = Ok row.owner.instance
 
 unfoldable pub holder_of : Seen → StateId → Result Party OpStatus
-holder_of s id = holder_in (resolved s (Named id))
+holder_of s id = holder_in (resolved s (Named id)) (lock_named s (Named id))

@@ -157,7 +157,11 @@ impl FsState {
     pub fn holder_of(&self, state: StateId) -> Result<Instance, OpStatus>
         ensures { result ≡ holder_of self.now.seen state }
     {
-        match self.tables.resolved(StateRef::Named(state)) {
+        let stateid = StateRef::Named(state);
+        if let Some(row) = self.tables.resolved(stateid) {
+            return Ok(row.owner.instance);
+        }
+        match self.tables.lock_named(stateid) {
             None => Err(OpStatus::BadStateId),
             Some(row) => Ok(row.owner.instance),
         }
