@@ -27,7 +27,7 @@ use Rattle.nm_slot.specs.SlotNow.SlotStep.{Entering, Applying, Leaving, Beginnin
 use Rattle.nm_short.specs.Known.{Known, learned, call_of, hand_of, place_of, sent_to}
 use Rattle.nm_short.specs.RunFacts.{home_of, run_after}
 use Rattle.nm_short.specs.Requests.{reply_of, goes_on_with, names_of, requests_limit, released_by, let_in}
-use Rattle.nm_short.specs.ShortRun.{FileNow, Went, Asked, Knocked, RunNow, Order, at_server, did, asks, after_asking, source, after_begin, begins, after_freeze, freezes, abandons, after_accept, delivers_offer, commits, delivers_handed, settles, and_then, shifts, knocks, at_door, calls_at, tries, frees_within, frees_after, frees, frees_all, left_by, frees_at, turned_away, released_at, releases, ran_found, ran_call, acts, starts, goes_on, ran_do, ran_finish, ordered, ran_order, run_line, files_from}
+use Rattle.nm_short.specs.ShortRun.{FileNow, Went, Asked, Knocked, RunNow, Order, at_server, did, asks, after_asking, source, after_begin, begins, after_freeze, freezes, abandons, after_accept, delivers_offer, commits, delivers_handed, settles, and_then, shifts, knocks, at_door, calls_at, tries, frees_within, frees_after, frees, frees_all, left_by, frees_at, turned_away, released_at, releases, ran_tries, ran_found, ran_call, acts, starts, goes_on, ran_do, ran_finish, ordered, ran_order, run_line, files_from}
 use Rattle.nm_short.specs.ShortRun.Order.{ToMove, ToFreeze, ToAbandon, ToCommit, ToSettle, ToShift, ToShow}
 use Rattle.nm_short.proofs.ClientLaws.{ask_of, knock_of}
 use Rattle.nm_short.proofs.ReleaseLaws.{all_keep}
@@ -231,10 +231,11 @@ unfolding released_at
 released_homes r client row act owner call s door None = turned_homes r client row act call s door (slice_get r.files (fs_of act)) refl
 released_homes r client row act owner call s door (Some epoch) = frees_homes r client row act owner call s epoch
 
-releases_homes : (r : RunNow) (client : ℕ) (row : ClientRow) (act : Action) (owner : List ℕ) (call : Call) (f : FileNow) → slice_get r.files (fs_of act) ≡ Some f
+releases_homes : (r : RunNow) (client : ℕ) (row : ClientRow) (act : Action) (owner : List ℕ) (call : Call) (f : Option FileNow) → slice_get r.files (fs_of act) ≡ f
     → homes (releases r client row act owner call f).run ≡ homes r
 unfolding releases
-releases_homes r client row act owner call f at = by_knocks requests_limit
+releases_homes r client row act owner call None at = refl
+releases_homes r client row act owner call (Some f) at = by_knocks requests_limit
   where
     by_knocks : (k : ℕ) → homes (released_at (record {
       files = slice_set r.files (fs_of act) (knocks k f (place_of client f.home.fs f.home.first r.known.places)).file;
@@ -251,12 +252,18 @@ releases_homes r client row act owner call f at = by_knocks requests_limit
         ∙ homes_set r.files (fs_of act) f (knocks k f (place_of client f.home.fs f.home.first r.known.places)).file at
         (knocks_home k f (place_of client f.home.fs f.home.first r.known.places))
 
-found_homes : (r : RunNow) (client : ℕ) (row : ClientRow) (act : Action) (call : Call) (f : FileNow) (owner : Option (List ℕ)) → slice_get r.files (fs_of act) ≡ Some f
-    → homes (ran_found r client row act call f owner).run ≡ homes r
-unfolding ran_found
-found_homes r client row act call f None at =
+tries_homes : (r : RunNow) (client : ℕ) (row : ClientRow) (act : Action) (call : Call) (f : Option FileNow) → slice_get r.files (fs_of act) ≡ f
+    → homes (ran_tries r client row act call f).run ≡ homes r
+unfolding ran_tries
+tries_homes r client row act call None at = refl
+tries_homes r client row act call (Some f) at =
     homes_set r.files (fs_of act) f (tries f client row act call r.known).file at (tries_home f client row act call r.known)
-found_homes r client row act call f (Some owner) at = releases_homes r client row act owner call f at
+
+found_homes : (r : RunNow) (client : ℕ) (row : ClientRow) (act : Action) (call : Call) (owner : Option (List ℕ)) (f : Option FileNow)
+    → slice_get r.files (fs_of act) ≡ f → homes (ran_found r client row act call owner f).run ≡ homes r
+unfolding ran_found
+found_homes r client row act call None f at = tries_homes r client row act call f at
+found_homes r client row act call (Some owner) f at = releases_homes r client row act owner call f at
 
 -- ---- every line
 
@@ -264,8 +271,7 @@ call_homes : (r : RunNow) (client : ℕ) (row : ClientRow) (act : Action) (call 
     → homes (ran_call r client row act call f).run ≡ homes r
 unfolding ran_call
 call_homes r client row act None f at = refl
-call_homes r client row act (Some call) None at = refl
-call_homes r client row act (Some call) (Some f) at = found_homes r client row act call f (released_by act) at
+call_homes r client row act (Some call) f at = found_homes r client row act call (released_by act) f at
 
 acts_homes : (r : RunNow) (client : ℕ) (row : ClientRow) (act : Action) → homes (acts r client row act).run ≡ homes r
 unfolding acts

@@ -15,9 +15,9 @@ use Rattle.nm_slot.specs.declared.answers.Enter.TheVariants as enter
 use Rattle.nm_slot.specs.History.{passes_now, is_out}
 use Rattle.nm_short.specs.Known.{Known, call_of, hand_of, place_of, sent_to, known_freed}
 use Rattle.nm_short.specs.Requests.{requests_limit, released_by, let_in, told_freed}
-use Rattle.nm_short.specs.ShortRun.{FileNow, Tried, Knocked, FreedFiles, RunNow, Ran, Order, knocks, at_door, tries, frees_all, frees_at, turned_away, released_at, releases, ran_found, ordered, outcome, ran_tried, ran_call, acts, starts, goes_on, ran_do, ran_finish, ran_order, gives_order, run_line}
+use Rattle.nm_short.specs.ShortRun.{FileNow, Tried, Knocked, FreedFiles, RunNow, Ran, Order, knocks, at_door, tries, frees_all, frees_at, turned_away, released_at, releases, ran_tries, ran_found, ordered, outcome, ran_tried, ran_call, acts, starts, goes_on, ran_do, ran_finish, ran_order, gives_order, run_line}
 use Rattle.nm_short.specs.ShortRun.Order.{ToMove, ToFreeze, ToAbandon, ToCommit, ToSettle, ToShift, ToShow}
-use Rattle.nm_short.specs.Tables.{FileTables, TriedTo, KnockedTo, TablesNow, Step, knocks_to, door_to, tries_to, frees_all_to, frees_at_to, turned_to, released_to, releases_to, told_tried, told_found, ordered_to, told_call, told_act, told_start, told_go_on, told_do, told_finish, told_order, told_ordered, told_line}
+use Rattle.nm_short.specs.Tables.{FileTables, TriedTo, KnockedTo, TablesNow, Step, knocks_to, door_to, tries_to, frees_all_to, frees_at_to, turned_to, released_to, releases_to, told_tried, told_tries, told_found, ordered_to, told_call, told_act, told_start, told_go_on, told_do, told_finish, told_order, told_ordered, told_line}
 use Rattle.nm_short.proofs.ClientLaws.{IsTried, IsIn, IsKnocked, knocks_same, door_same, tries_same}
 use Rattle.nm_short.proofs.OrderLaws.{IsWent}
 use Rattle.nm_short.proofs.OrderedLaws.{IsOrder, ordered_same}
@@ -154,37 +154,44 @@ releases_with k t client row act owner call u fs first known =
     (knocks_to k u (place_of client fs first known.places)).server (knocks_to k u (place_of client fs first known.places)).door
     (let_in (knocks_to k u (place_of client fs first known.places)).door)
 
-releases_same : (n : ℕ) (r : RunNow) (t : TablesNow) (client : ℕ) (row : ClientRow) (act : Action) (owner : List ℕ) (call : Call) (f : FileNow) (u : FileTables)
-    → RunStands n r t → slice_get r.files (fs_of act) ≡ Some f → Stands n f u
+releases_same : (n : ℕ) (r : RunNow) (t : TablesNow) (client : ℕ) (row : ClientRow) (act : Action) (owner : List ℕ) (call : Call)
+    (f : Option FileNow) (u : Option FileTables) → RunStands n r t → slice_get r.files (fs_of act) ≡ f → BothStand n f u
     → IsRan n (releases r client row act owner call f) (releases_to t client row act owner call u)
 unfolding releases releases_to knocked_run knocked_tables releases_with
-releases_same n r t client row act owner call f u run at stands =
-    subst (λ known. IsRan n (releases r client row act owner call f) (releases_with requests_limit t client row act owner call u u.fs u.first known)) (sym run.known)
-    (subst (λ fs. IsRan n (releases r client row act owner call f) (releases_with requests_limit t client row act owner call u fs u.first r.known)) (sym stands.fs)
-    (subst (λ first. IsRan n (releases r client row act owner call f) (releases_with requests_limit t client row act owner call u f.home.fs first r.known)) (sym stands.first)
-    (releases_by requests_limit n r t client f.home.fs f.home.first row act owner call f u run at stands)))
+releases_same n r t client row act owner call None None run at both = record { rows = refl; next = run }
+releases_same n r t client row act owner call None (Some u) run at both = absurd both
+releases_same n r t client row act owner call (Some f) None run at both = absurd both
+releases_same n r t client row act owner call (Some f) (Some u) run at both =
+    subst (λ known. IsRan n (releases r client row act owner call (Some f)) (releases_with requests_limit t client row act owner call u u.fs u.first known)) (sym run.known)
+    (subst (λ fs. IsRan n (releases r client row act owner call (Some f)) (releases_with requests_limit t client row act owner call u fs u.first r.known)) (sym both.fs)
+    (subst (λ first. IsRan n (releases r client row act owner call (Some f)) (releases_with requests_limit t client row act owner call u f.home.fs first r.known)) (sym both.first)
+    (releases_by requests_limit n r t client f.home.fs f.home.first row act owner call f u run at both)))
 
 -- ---- an action
 
-found_same : (n : ℕ) (r : RunNow) (t : TablesNow) (client : ℕ) (row : ClientRow) (act : Action) (call : Call) (f : FileNow) (u : FileTables) (owner : Option (List ℕ))
-    → RunStands n r t → slice_get r.files (fs_of act) ≡ Some f → Stands n f u
-    → IsRan n (ran_found r client row act call f owner) (told_found t client row act call u owner)
-unfolding ran_found told_found
-found_same n r t client row act call f u None run at stands =
+tries_found : (n : ℕ) (r : RunNow) (t : TablesNow) (client : ℕ) (row : ClientRow) (act : Action) (call : Call) (f : Option FileNow) (u : Option FileTables)
+    → RunStands n r t → BothStand n f u → IsRan n (ran_tries r client row act call f) (told_tries t client row act call u)
+unfolding ran_tries told_tries
+tries_found n r t client row act call None None run both = record { rows = refl; next = run }
+tries_found n r t client row act call None (Some u) run both = absurd both
+tries_found n r t client row act call (Some f) None run both = absurd both
+tries_found n r t client row act call (Some f) (Some u) run both =
     subst (λ known. IsRan n (ran_tried r row act (tries f client row act call r.known)) (told_tried t row act (tries_to u client row act call known))) (sym run.known)
     (tell_same n r t row act (tries f client row act call r.known) (tries_to u client row act call r.known) run
-    (tries_same n f u client row act call r.known stands))
-found_same n r t client row act call f u (Some owner) run at stands = releases_same n r t client row act owner call f u run at stands
+    (tries_same n f u client row act call r.known both))
+
+found_same : (n : ℕ) (r : RunNow) (t : TablesNow) (client : ℕ) (row : ClientRow) (act : Action) (call : Call) (owner : Option (List ℕ))
+    (f : Option FileNow) (u : Option FileTables) → RunStands n r t → slice_get r.files (fs_of act) ≡ f → BothStand n f u
+    → IsRan n (ran_found r client row act call owner f) (told_found t client row act call owner u)
+unfolding ran_found told_found
+found_same n r t client row act call None f u run at both = tries_found n r t client row act call f u run both
+found_same n r t client row act call (Some owner) f u run at both = releases_same n r t client row act owner call f u run at both
 
 tried_same : (n : ℕ) (r : RunNow) (t : TablesNow) (client : ℕ) (row : ClientRow) (act : Action) (call : Option Call) (f : Option FileNow) (u : Option FileTables)
     → RunStands n r t → slice_get r.files (fs_of act) ≡ f → BothStand n f u → IsRan n (ran_call r client row act call f) (told_call t client row act call u)
 unfolding ran_call told_call
 tried_same n r t client row act None f u run at both = record { rows = refl; next = run }
-tried_same n r t client row act (Some call) None None run at both = record { rows = refl; next = run }
-tried_same n r t client row act (Some call) None (Some u) run at both = absurd both
-tried_same n r t client row act (Some call) (Some f) None run at both = absurd both
-tried_same n r t client row act (Some call) (Some f) (Some u) run at both =
-    found_same n r t client row act call f u (released_by act) run at both
+tried_same n r t client row act (Some call) f u run at both = found_same n r t client row act call (released_by act) f u run at both
 
 acts_same : (n : ℕ) (r : RunNow) (t : TablesNow) (client : ℕ) (row : ClientRow) (act : Action) → RunStands n r t
     → IsRan n (acts r client row act) (told_act t client row act)

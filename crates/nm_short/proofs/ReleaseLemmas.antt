@@ -15,7 +15,7 @@ behind front all = record { files = front ++ all.files; freed = all.freed }
 
 pick : Bool → FreedTo → List FileTables → FreedAllTo → FreedAllTo
 pick b one rest further =
-    if b then record { files = one.file ∷ further.files; freed = further.freed } else record { files = one.file ∷ rest; freed = one.freed }
+    cond b (record { files = one.file ∷ further.files; freed = further.freed }) (record { files = one.file ∷ rest; freed = one.freed })
 
 then_on : (one : FreedTo) (rest : List FileTables) (further : FreedAllTo) → frees_more one.freed ≡ true
     → freed_then_to one rest further ≡ record { files = one.file ∷ further.files; freed = further.freed }

@@ -364,23 +364,28 @@ unfoldable pub released_at : RunNow → ℕ → ClientRow → Action → List �
 released_at r client row act owner call s door None = turned_away r client row act call s door (slice_get r.files (fs_of act))
 released_at r client row act owner call s door (Some epoch) = frees_at r client row act owner call s epoch
 
-unfoldable pub releases : RunNow → ℕ → ClientRow → Action → List ℕ → Call → FileNow → Ran
-releases r client row act owner call f =
+unfoldable pub releases : RunNow → ℕ → ClientRow → Action → List ℕ → Call → Option FileNow → Ran
+releases r client row act owner call None = nothing_said r
+releases r client row act owner call (Some f) =
     let knocked = knocks requests_limit f (place_of client f.home.fs f.home.first r.known.places) in
     released_at (record {
       files = slice_set r.files (fs_of act) knocked.file;
       known = record r.known { places = sent_to client f.home.fs knocked.server r.known.places };
     }) client row act owner call knocked.server knocked.door (let_in knocked.door)
 
-unfoldable pub ran_found : RunNow → ℕ → ClientRow → Action → Call → FileNow → Option (List ℕ) → Ran
-ran_found r client row act call f None = ran_tried r row act (tries f client row act call r.known)
-ran_found r client row act call f (Some owner) = releases r client row act owner call f
+unfoldable pub ran_tries : RunNow → ℕ → ClientRow → Action → Call → Option FileNow → Ran
+ran_tries r client row act call None = nothing_said r
+ran_tries r client row act call (Some f) = ran_tried r row act (tries f client row act call r.known)
+
+-- a release of an owner, and every other action
+unfoldable pub ran_found : RunNow → ℕ → ClientRow → Action → Call → Option (List ℕ) → Option FileNow → Ran
+ran_found r client row act call None f = ran_tries r client row act call f
+ran_found r client row act call (Some owner) f = releases r client row act owner call f
 
 -- Without a stateid that it needs nothing is sent.
 unfoldable pub ran_call : RunNow → ℕ → ClientRow → Action → Option Call → Option FileNow → Ran
 ran_call r client row act None f = record { rows = outcome row act told.NoState ∷ []; run = r }
-ran_call r client row act (Some call) None = nothing_said r
-ran_call r client row act (Some call) (Some f) = ran_found r client row act call f (released_by act)
+ran_call r client row act (Some call) f = ran_found r client row act call (released_by act) f
 
 unfoldable pub acts : RunNow → ℕ → ClientRow → Action → Ran
 acts r client row act = ran_call r client row act (call_of client row r.known act) (slice_get r.files (fs_of act))

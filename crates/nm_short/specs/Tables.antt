@@ -355,22 +355,26 @@ unfoldable pub released_to : TablesNow → ℕ → ClientRow → Action → List
 released_to t client row act owner call s door None = turned_to t client row act call s door (slice_get t.files (fs_of act))
 released_to t client row act owner call s door (Some epoch) = frees_at_to t client row act owner call s epoch
 
-unfoldable pub releases_to : TablesNow → ℕ → ClientRow → Action → List ℕ → Call → FileTables → Step
-releases_to t client row act owner call f =
+unfoldable pub releases_to : TablesNow → ℕ → ClientRow → Action → List ℕ → Call → Option FileTables → Step
+releases_to t client row act owner call None = says_nothing t
+releases_to t client row act owner call (Some f) =
     let knocked = knocks_to requests_limit f (place_of client f.fs f.first t.known.places) in
     released_to (record {
       files = slice_set t.files (fs_of act) knocked.file;
       known = record t.known { places = sent_to client f.fs knocked.server t.known.places };
     }) client row act owner call knocked.server knocked.door (let_in knocked.door)
 
-unfoldable pub told_found : TablesNow → ℕ → ClientRow → Action → Call → FileTables → Option (List ℕ) → Step
-told_found t client row act call f None = told_tried t row act (tries_to f client row act call t.known)
-told_found t client row act call f (Some owner) = releases_to t client row act owner call f
+unfoldable pub told_tries : TablesNow → ℕ → ClientRow → Action → Call → Option FileTables → Step
+told_tries t client row act call None = says_nothing t
+told_tries t client row act call (Some f) = told_tried t row act (tries_to f client row act call t.known)
+
+unfoldable pub told_found : TablesNow → ℕ → ClientRow → Action → Call → Option (List ℕ) → Option FileTables → Step
+told_found t client row act call None f = told_tries t client row act call f
+told_found t client row act call (Some owner) f = releases_to t client row act owner call f
 
 unfoldable pub told_call : TablesNow → ℕ → ClientRow → Action → Option Call → Option FileTables → Step
 told_call t client row act None f = record { rows = outcome row act told.NoState ∷ []; next = t }
-told_call t client row act (Some call) None = says_nothing t
-told_call t client row act (Some call) (Some f) = told_found t client row act call f (released_by act)
+told_call t client row act (Some call) f = told_found t client row act call (released_by act) f
 
 unfoldable pub told_act : TablesNow → ℕ → ClientRow → Action → Step
 told_act t client row act = told_call t client row act (call_of client row t.known act) (slice_get t.files (fs_of act))

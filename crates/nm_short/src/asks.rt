@@ -5,7 +5,7 @@ ghost use Rattle.nm_rules.specs.declared.calls.Verdict.TheVariants.{Pass};
 ghost use Rattle.nm_slot.specs.Answers.{apply_answer};
 ghost use Rattle.nm_slot.specs.SlotNow.SlotStep.{Applying};
 ghost use Rattle.nm_short.specs.Files.{asked_in, freed_in, knocked_to, sent_on};
-ghost use Rattle.nm_short.specs.Known.{place_of, sent_to, put_down, taken_up};
+ghost use Rattle.nm_short.specs.Known.{learned, place_of, sent_to, put_down, taken_up};
 ghost use Rattle.nm_short.specs.Runs.{tried_to};
 ghost use Rattle.nm_short.specs.Requests.{requests_limit, reply_of, last_cookie, more_of, confirms, opening_goes_on, listing_goes_on, tests, goes_on_with, names_of, told_ok, told_refused, told_by, freed_by, unknown_status};
 ghost use Rattle.nm_short.specs.Tables.{knocks_to, asks_to, asked_to, calls_to, door_to, tries_to, frees_within_to, frees_after_to, frees_to, slot_in, stepped};
@@ -24,6 +24,13 @@ use std::alloc::Global;
 
 /// So many requests one line may make.
 const REQUESTS_LIMIT: u64 = 1000;
+
+/// What came of a request: the reply, and the request that goes on with it.
+#[derive(Debug, Drop)]
+pub struct Replied {
+    pub reply: Reply,
+    pub next: Option<Call>,
+}
 
 /// What came of a request and of those that go on with it.
 #[derive(Debug, Drop)]
@@ -317,7 +324,32 @@ impl FileSlots {
         Ok(reply)
     }
 
-    // Makes an action's first request with a pass, and those that go on with it. The client learns from each reply.
+    // A request of an action with a pass: the client learns from the reply, and what goes on with it is told.
+    fn ask_one(
+        &mut self,
+        clients: &mut Clients,
+        server: ServerNum,
+        pass: &FsPass,
+        client: u32,
+        row: &ClientRow,
+        action: &Action,
+        call: &Call,
+        names: &mut Names,
+    ) -> Result<Replied, Memory>
+        requires { length row.now.name ≤ 16 }
+        ensures reply { IfOk result (λ replied. replied.reply ≡ reply_of call.now (apply_answer (slot_in self.old server) pass.now.epoch call.now Pass)) }
+        ensures after { OnOk result (self.new ≡ stepped self.old server (Applying pass.now.epoch call.now Pass (apply_answer (slot_in self.old server) pass.now.epoch call.now Pass))) }
+        ensures known { IfOk result (λ replied. clients.new ≡ learned client action.now call.now replied.reply clients.old) }
+        ensures names { IfOk result (λ replied. names.new ≡ names.old ++ names_of replied.reply.value) }
+        ensures next { IfOk result (λ replied. replied.next ≡ goes_on_with client row.now action.now call.now replied.reply.value) }
+    {
+        let reply = self.request(server, pass, call, names)?;
+        clients.learn(client, action, call, &reply)?;
+        let next = goes_on_with(self.alloc, client, row, action, call, &reply.value)?;
+        Ok(Replied { reply, next })
+    }
+
+    // Makes an action's first request with a pass, and those that go on with it.
     fn ask(
         &mut self,
         clients: &mut Clients,
@@ -334,13 +366,14 @@ impl FileSlots {
         let mut names = Items::new(self.alloc);
         let mut call = first.copy()?;
         for _count in 0..REQUESTS_LIMIT {
-            let reply = self.request(server, pass, &call, &mut names)?;
-            clients.learn(client, action, &call, &reply)?;
-            match goes_on_with(self.alloc, client, row, action, &call, &reply.value)? {
+            let replied = self.ask_one(
+                clients, server, pass, client, row, action, &call, &mut names,
+            )?;
+            match replied.next {
                 Some(next) => call = next,
                 None => {
                     return Ok(Asked {
-                        reply: Some(reply),
+                        reply: Some(replied.reply),
                         names,
                     });
                 }

@@ -1,11 +1,10 @@
 //! The release of a lock owner, which goes to each file system of a server.
-ghost use Rattle.std.specs.Prelude.{◌≡◌, ◌≤◌, Some, None, length, slice_get, IfOk, IfErr, option_copied};
+ghost use Rattle.std.specs.Prelude.{◌≡◌, ◌≤◌, length, slice_get, IfOk, option_copied};
 ghost use Rattle.nm_rules.specs.Actions.{fs_of};
-ghost use Rattle.nm_slot.specs.declared.answers.Enter.TheVariants.{Entered};
 ghost use Rattle.nm_short.specs.Files.{all_freed_in};
 ghost use Rattle.nm_short.specs.Requests.{released_by, let_in, told_freed};
 ghost use Rattle.nm_short.specs.Runs.{step_to};
-ghost use Rattle.nm_short.specs.Tables.{frees_all_to, leaves_to, left_to, frees_at_to, turned_to, released_to};
+ghost use Rattle.nm_short.specs.Tables.{frees_all_to, leaves_to, left_to, frees_at_to, turned_to, released_to, releases_to};
 
 use crate::asks::Knocked;
 use crate::files::FileSlots;
@@ -35,22 +34,6 @@ fn told_freed(freed: Freed) -> Told
         Freed::On => Told::Answered(OpStatus::Nfs4Ok),
         Freed::Waits => Told::Delayed,
         Freed::Ends(status) => Told::Answered(status),
-    }
-}
-
-// The pass of who is let in, or else the door's answer.
-#[tactic(auto, unfolding(crate::specs::Requests::let_in))]
-fn take_pass(door: Option<Enter>) -> Result<FsPass, Option<Enter>>
-    ensures pass { IfOk result (λ pass. door ≡ Some (Entered pass)) }
-    ensures outside { IfErr result (λ its. (its ≡ door) × (let_in door ≡ None)) }
-{
-    match door {
-        Some(Enter::Entered(pass)) => Ok(pass),
-        Some(Enter::Moved { dest }) => Err(Some(Enter::Moved { dest })),
-        Some(Enter::Full { passes }) => Err(Some(Enter::Full { passes })),
-        Some(Enter::Delay) => Err(Some(Enter::Delay)),
-        Some(Enter::Unknown) => Err(Some(Enter::Unknown)),
-        None => Err(None),
     }
 }
 
@@ -121,9 +104,9 @@ impl Run {
         Ok(outcome_of(self.alloc, row, action, told)?)
     }
 
-    /// A client's release, once it knocked. After want of memory nothing is promised of the run.
+    // A client's release, once it knocked.
     #[tactic(auto, unfolding(crate::specs::Tables::released_to, crate::specs::Requests::let_in))]
-    pub(crate) fn release(
+    fn knocked(
         &mut self,
         client: u32,
         row: &ClientRow,
@@ -136,12 +119,34 @@ impl Run {
         ensures { IfOk result (λ rows. step_to rows self.new ≡ released_to self.old client row.now action.now owner.now call.now knocked.server knocked.door (let_in knocked.door)) }
     {
         let Knocked { server, door } = knocked;
-        match take_pass(door) {
-            Ok(pass) => Ok(self.free_at(client, row, action, owner, call, server, pass)?),
-            Err(door) => {
+        match door {
+            Some(Enter::Entered(pass)) => {
+                Ok(self.free_at(client, row, action, owner, call, server, pass)?)
+            }
+            door => {
                 let knocked = Knocked { server, door };
                 Ok(self.turn_away(client, row, action, call, knocked)?)
             }
         }
+    }
+    /// A client's release. After want of memory nothing is promised of the run.
+    #[tactic(auto, unfolding(crate::specs::Tables::releases_to))]
+    pub(crate) fn release(
+        &mut self,
+        client: u32,
+        row: &ClientRow,
+        action: &Action,
+        owner: &Bytes,
+        call: &Call,
+    ) -> Result<Report, Memory>
+        requires { length row.now.name ≤ 16 }
+        ensures { IfOk result (λ rows. step_to rows self.new ≡ releases_to self.old client row.now action.now owner.now call.now (slice_get self.old.files (fs_of action.now))) }
+    {
+        let at = action.fs().number() as usize;
+        if at >= self.files.len() {
+            return Ok(Items::new(self.alloc));
+        }
+        let knocked = self.files[at].knock_for(&mut self.clients, client)?;
+        Ok(self.knocked(client, row, action, owner, call, knocked)?)
     }
 }

@@ -7,7 +7,7 @@ ghost use Rattle.nm_short.specs.Files.{order_of};
 ghost use Rattle.nm_short.specs.Known.{call_of};
 ghost use Rattle.nm_short.specs.Runs.{step_to, phase_shown_at};
 ghost use Rattle.nm_short.specs.ShortRun.{outcome, short_run};
-ghost use Rattle.nm_short.specs.Tables.{AreShort, told_call, told_act, told_start, told_go_on, told_do, told_finish, told_ordered, told_line, text_from, tables_at_first, tables_of_head};
+ghost use Rattle.nm_short.specs.Tables.{AreShort, told_call, told_tries, told_act, told_start, told_go_on, told_do, told_finish, told_ordered, told_line, text_from, tables_at_first, tables_of_head};
 
 use crate::clients::Clients;
 use crate::files::FileSlots;
@@ -101,8 +101,28 @@ impl Run {
         }
     }
 
-    // A client's call.
-    #[tactic(auto, unfolding(crate::specs::Tables::told_call, crate::specs::Tables::told_found, crate::specs::Tables::releases_to))]
+    // A client's call, and those that go on with it.
+    #[tactic(auto, unfolding(crate::specs::Tables::told_tries))]
+    fn try_call(
+        &mut self,
+        client: u32,
+        row: &ClientRow,
+        action: &Action,
+        call: &Call,
+    ) -> Result<Report, Memory>
+        requires { length row.now.name ≤ 16 }
+        ensures { IfOk result (λ rows. step_to rows self.new ≡ told_tries self.old client row.now action.now call.now (slice_get self.old.files (fs_of action.now))) }
+    {
+        let at = action.fs().number() as usize;
+        if at >= self.files.len() {
+            return Ok(Items::new(self.alloc));
+        }
+        let told = self.files[at].tries(&mut self.clients, client, row, action, call)?;
+        Ok(outcome_of(self.alloc, row, action, told)?)
+    }
+
+    // A client's call, which releases an owner or not.
+    #[tactic(auto, unfolding(crate::specs::Tables::told_call, crate::specs::Tables::told_found))]
     fn make_call(
         &mut self,
         client: u32,
@@ -113,19 +133,9 @@ impl Run {
         requires { length row.now.name ≤ 16 }
         ensures { IfOk result (λ rows. step_to rows self.new ≡ told_call self.old client row.now action.now (Some call.now) (slice_get self.old.files (fs_of action.now))) }
     {
-        let at = action.fs().number() as usize;
-        if at >= self.files.len() {
-            return Ok(Items::new(self.alloc));
-        }
         match released_by(action) {
-            Some(owner) => {
-                let knocked = self.files[at].knock_for(&mut self.clients, client)?;
-                Ok(self.release(client, row, action, owner, call, knocked)?)
-            }
-            None => {
-                let told = self.files[at].tries(&mut self.clients, client, row, action, call)?;
-                Ok(outcome_of(self.alloc, row, action, told)?)
-            }
+            Some(owner) => Ok(self.release(client, row, action, owner, call)?),
+            None => Ok(self.try_call(client, row, action, call)?),
         }
     }
 
