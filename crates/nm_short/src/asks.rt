@@ -366,14 +366,14 @@ impl FileSlots {
         let mut names = Items::new(self.alloc);
         let mut call = first.copy()?;
         for _count in 0..REQUESTS_LIMIT {
-            let replied = self.ask_one(
+            let Replied { reply, next } = self.ask_one(
                 clients, server, pass, client, row, action, &call, &mut names,
             )?;
-            match replied.next {
+            match next {
                 Some(next) => call = next,
                 None => {
                     return Ok(Asked {
-                        reply: Some(replied.reply),
+                        reply: Some(reply),
                         names,
                     });
                 }

@@ -5,13 +5,13 @@ use Rattle.nm_short.proofs.files.FileSlots.ask.Goals as goal
 
 pub returns-in-None : goal.returns-in-None
 returns-in-None c =
-    asked_last requests_limit c.loop-count._count _ _ _ _ _ _ _ _ _ _ _ _ _ _ c.loop-count-test.true c.in_ok-replied.ensures.reply c.in_ok-replied.ensures.after
-    c.in_ok-replied.ensures.known c.in_ok-replied.ensures.names (sym c.in-None.is ∙ c.in_ok-replied.ensures.next) c.loop-count.invariant
+    asked_last requests_limit c.loop-count._count _ _ _ _ _ _ _ _ _ _ _ _ _ _ c.loop-count-test.true c.in_ok-reply.ensures.reply c.in_ok-reply.ensures.after
+    c.in_ok-reply.ensures.known c.in_ok-reply.ensures.names (sym c.in-None.is ∙ c.in_ok-reply.ensures.next) c.loop-count.invariant
 
 pub loop-count-preserved : goal.loop-count-preserved
 loop-count-preserved c =
-    asked_on requests_limit c.loop-count._count _ _ _ _ _ _ _ _ _ _ _ _ _ _ _ c.loop-count-test.true c.in_ok-replied.ensures.reply c.in_ok-replied.ensures.after
-    c.in_ok-replied.ensures.known c.in_ok-replied.ensures.names (sym c.in-Some.is ∙ c.in_ok-replied.ensures.next) c.loop-count.invariant
+    asked_on requests_limit c.loop-count._count _ _ _ _ _ _ _ _ _ _ _ _ _ _ _ c.loop-count-test.true c.in_ok-reply.ensures.reply c.in_ok-reply.ensures.after
+    c.in_ok-reply.ensures.known c.in_ok-reply.ensures.names (sym c.in-Some.is ∙ c.in_ok-reply.ensures.next) c.loop-count.invariant
 
 pub returns : goal.returns
 returns c = asked_out requests_limit c.loop-count._count _ _ _ _ _ _ _ _ _ _ c.loop-count-test.false c.loop-count.invariant
