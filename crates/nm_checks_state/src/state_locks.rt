@@ -3,7 +3,7 @@ use crate::state_steps::{
     How, Part, Row, Step, What, client, first_other_of, go, last_tells, no_files, stateid,
 };
 use nm_rules::{
-    Bytes, Denied, HeldKind, HeldRow, LockKind, LockOutcome, LockRange, LockType, OpStatus,
+    Bytes, Denied, HeldKind, Items, LockKind, LockOutcome, LockRange, LockType, OpStatus,
     ReplyValue, StateId, StateRef,
 };
 use std::alloc::Global;
@@ -355,20 +355,14 @@ fn a_denied_lock_tells_what_is_in_its_way(rt: HostRuntime) -> Result<(), Fail> {
     Ok(())
 }
 
-fn is_held(row: &HeldRow, counter: u64, wanted: &[(u64, u64)]) -> bool {
-    let HeldKind::Lock { ranges } = &row.row else {
-        return false;
-    };
-    let ranges = ranges.items();
-    if row.counter != counter || ranges.len() != wanted.len() {
-        return false;
-    }
-    for at in 0..ranges.len() {
-        if (ranges[at].first, ranges[at].last) != wanted[at] {
-            return false;
-        }
-    }
-    true
+fn range(kind: LockKind, first: u64, last: u64) -> LockRange {
+    LockRange { kind, first, last }
+}
+
+fn held(alloc: Global, ranges: &[LockRange]) -> Result<HeldKind, Fail> {
+    Ok(HeldKind::Lock {
+        ranges: Items::from_slice(alloc, ranges)?,
+    })
 }
 
 #[test]
@@ -376,10 +370,21 @@ fn locks_are_shown_by_their_stateids(rt: HostRuntime) -> Result<(), Fail> {
     let alloc = rt.alloc();
     let mut state = no_files(alloc)?;
     go(alloc, &mut state, &TOLD)?;
+    let first = held(
+        alloc,
+        &[range(LockKind::Write, 0, 9), range(LockKind::Write, 20, 21)],
+    )?;
+    let second = held(
+        alloc,
+        &[
+            range(LockKind::Read, 30, 39),
+            range(LockKind::Read, 50, 129),
+        ],
+    )?;
     let table = state.table()?;
     let rows = table.items();
     assert_eq!(rt; rows.len(), 4);
-    assert!(rt; is_held(&rows[2], 3, &[(0, 9), (20, 21)]));
-    assert!(rt; is_held(&rows[3], 4, &[(30, 39), (50, 129)]));
+    assert!(rt; rows[2].row == first);
+    assert!(rt; rows[3].row == second);
     Ok(())
 }
