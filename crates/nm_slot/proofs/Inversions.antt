@@ -59,23 +59,23 @@ abbrev pub changes_phase : SlotStep → Bool
 changes_phase (Beginning here dest (begin.Begun number)) = true
 changes_phase (Freezing (freeze.Frozen number)) = true
 changes_phase (Committing number (Committed parties)) = true
-changes_phase (Abandoning (abandon.Back number)) = true
-changes_phase (Installing number install.Now) = true
+changes_phase (Abandoning ends (abandon.Back number)) = true
+changes_phase (Installing number ends install.Now) = true
 changes_phase _ = false
 
 same_at_source : (p : Phase) (step : SlotStep) → changes_phase step ≡ false → after_at_source p step ≡ p
 same_at_source (At q) (Beginning here dest (begin.Begun number)) e = cc
 same_at_source (At q) _ e = refl
 same_at_source (Closing q dest number) (Freezing (freeze.Frozen its)) e = cc
-same_at_source (Closing q dest number) (Abandoning (abandon.Back its)) e = cc
+same_at_source (Closing q dest number) (Abandoning ends (abandon.Back its)) e = cc
 same_at_source (Closing q dest number) _ e = refl
 same_at_source (Frozen q dest number) (Committing its (Committed parties)) e = cc
-same_at_source (Frozen q dest number) (Abandoning (abandon.Back its)) e = cc
+same_at_source (Frozen q dest number) (Abandoning ends (abandon.Back its)) e = cc
 same_at_source (Frozen q dest number) _ e = refl
 same_at_source (Passing q dest number) step e = refl
 
 same_elsewhere : (p : Phase) (s : ℕ) (step : SlotStep) → changes_phase step ≡ false → after_elsewhere p s step ≡ p
-same_elsewhere (Passing q dest number) s (Installing its install.Now) e = cc
+same_elsewhere (Passing q dest number) s (Installing its ends install.Now) e = cc
 same_elsewhere (Passing q dest number) s _ e = refl
 same_elsewhere (At q) s step e = refl
 same_elsewhere (Closing q dest number) s step e = refl

@@ -1,9 +1,10 @@
 -- Each answered step keeps the facts.
 use Rattle.std.proofs.Common.{◌≡◌, ◌≢◌, ℕ, Bool, true, false, cond, List, refl, sym, subst, ap, ◌∙◌, Option, Some, None, eqb-true}
-use Rattle.std.specs.Prelude.{◌+◌, ◌==◌}
+use Rattle.std.specs.Prelude.{◌+◌, ◌==◌, length}
 use Rattle.std.proofs.lemmas.Bool.{eqb-false}
 use Rattle.nm_rules.specs.Seen.{Seen}
-use Rattle.nm_rules.specs.Holders.{holders}
+use Rattle.nm_roll.specs.declared.answers.LeasePass.{LeasePass}
+use Rattle.nm_rules.specs.Holders.{holders, has_row}
 use Rattle.nm_rules.specs.Parties.{Party}
 use Rattle.nm_rules.specs.declared.calls.Call.{Call}
 use Rattle.nm_rules.specs.declared.calls.Reply.{Reply}
@@ -12,7 +13,8 @@ use Rattle.nm_slot.specs.declared.answers.Abandon.TheVariants as abandon
 use Rattle.nm_slot.specs.declared.answers.Answer.TheVariants as answer
 use Rattle.nm_slot.specs.declared.answers.Begin.TheVariants as begin
 use Rattle.nm_slot.specs.declared.answers.Freeze.TheVariants as freeze
-use Rattle.nm_slot.specs.Answers.{applied, begun as begin_by, is_at_end, frozen as freeze_by, offered, committed as commit_by, committed_away, is_left_by, abandoned as abandon_by, abandoned_away}
+use Rattle.nm_slot.specs.declared.answers.Swept.TheVariants as sweep
+use Rattle.nm_slot.specs.Answers.{applied, begun as begin_by, is_at_end, frozen as freeze_by, offered, committed as commit_by, committed_away, is_left_by, abandoned as abandon_by, abandoned_away, put_off_if, swept_held, swept_at}
 use Rattle.nm_slot.specs.Moves.{Move}
 use Rattle.nm_slot.specs.Phases.{Phase, source_of, phase_after, after_at_source, column}
 use Rattle.nm_slot.specs.Phases.Phase.{At, Closing, Frozen, Passing}
@@ -24,7 +26,7 @@ use Rattle.nm_slot.specs.SlotNow.SlotStep.{Beginning, Freezing, Imaging, Committ
 use Rattle.nm_slot.proofs.Facts.{Facts, new_move, offer_now}
 use Rattle.nm_slot.proofs.Inversions.{is_source, at_source}
 use Rattle.nm_slot.proofs.StepsHeld.{prepared, some_same}
-use Rattle.nm_slot.proofs.StepsSource.{quiet, called_at, called_closing, begun, own_begun, frozen, imaged, offering, committed, handed_move, given_up, given_up_move}
+use Rattle.nm_slot.proofs.StepsSource.{IsSame, quiet, called_at, called_closing, begun, own_begun, frozen, imaged, offering, committed, handed_move, given_up, given_up_move}
 use Rattle.nm_slot.proofs.Updates.{put}
 
 -- the phase after a step at a server
@@ -68,6 +70,14 @@ pub not_back : (n : ℕ) (held : Option Offer) (left : Option Left) → abandon.
 not_back n None None a = cc
 not_back n None (Some left) a = cc
 not_back n (Some offer) left a = cc
+
+pub not_off : (has : Bool) → sweep.Ended ≡ put_off_if has → ⊥
+not_off true a = cc
+not_off false a = cc
+
+pub not_ended : (party : Party) (held : Option Offer) → sweep.Ended ≡ swept_held party held → ⊥
+not_ended party None a = cc
+not_ended party (Some offer) a = not_off (has_row party offer.state) a
 
 -- ---- each step that a source answers
 
@@ -125,31 +135,49 @@ module _ {p : Phase} {begins : ℕ} {move : ℕ → Move} {own : ℕ → Own} {t
       (subst (λ j. Facts (Passing s dest number) begins (put j (λ k. handed_move (move k)) move) (put s left own) t) same
       (committed (quiet now s left (record { held = refl; known = refl; installed = refl }) refl refl) (ap (λ k. (move k).prepared) same ∙ prepared)))
 
-  pub back_kept : (n : ℕ) (stage : Stage) → column p t s ≡ stage → abandon.Back n ≡ abandon_by stage (own s)
-      → Facts (next p s (Abandoning (abandon.Back n))) begins (put n (λ k. given_up_move (move k)) move) own t
-  back_kept n Away e a = absurd (not_back n (own s).held (own s).left a)
-  back_kept n (Here Serves state) e a = cc
-  back_kept n (Here (Closes dest number) state) e a =
+  pub back_kept : (after : Seen) (ends : List Party) (n : ℕ) (stage : Stage) → column p t s ≡ stage → abandon.Back n ≡ abandon_by stage (own s)
+      → Facts (next p s (Abandoning ends (abandon.Back n))) begins (put n (λ k. given_up_move (move k)) move)
+      (put s (λ r. record (own r) { count = (own r).count + length ends }) own) after
+  back_kept after ends n Away e a = absurd (not_back n (own s).held (own s).left a)
+  back_kept after ends n (Here Serves state) e a = cc
+  back_kept after ends n (Here (Closes dest number) state) e a =
       let it = is_source p t s (Closes dest number) state e in
       let now : Facts (Closing s dest number) begins move own t = known_phase it.phase facts in
       let same : n ≡ number = cc in
-      from_source s (Abandoning (abandon.Back n)) it.phase refl (given_up t n (same ∙ now.offers.latest) now.agreed)
-  back_kept n (Here (Froze dest number) state) e a =
+      from_source s (Abandoning ends (abandon.Back n)) it.phase refl 
+      (called_at (given_up t n (same ∙ now.offers.latest) now.agreed) after s (λ r. record (own r) { count = (own r).count + length ends })
+      (record { held = refl; known = refl; installed = refl }))
+  back_kept after ends n (Here (Froze dest number) state) e a =
       let it = is_source p t s (Froze dest number) state e in
       let now : Facts (Frozen s dest number) begins move own t = known_phase it.phase facts in
       let same : n ≡ number = cc in
-      from_source s (Abandoning (abandon.Back n)) it.phase refl (given_up t n (same ∙ now.offers.latest) now.agreed)
+      from_source s (Abandoning ends (abandon.Back n)) it.phase refl 
+      (called_at (given_up t n (same ∙ now.offers.latest) now.agreed) after s (λ r. record (own r) { count = (own r).count + length ends })
+      (record { held = refl; known = refl; installed = refl }))
 
-  pub called_kept : (after : Seen) (epoch : ℕ) (call : Call) (verdict : Verdict) (place : ℕ) (reply : Reply) (stage : Stage) → column p t s ≡ stage
-      → answer.Done place reply ≡ applied epoch call verdict stage (own s)
-      → Facts p begins move (put s (λ r. record (own r) { count = place }) own) after
-  called_kept after epoch call verdict place reply Away e a = cc
-  called_kept after epoch call verdict place reply (Here (Froze dest number) state) e a = cc
-  called_kept after epoch call verdict place reply (Here Serves state) e a =
+  pub called_kept : (after : Seen) (new : ℕ → Own) → IsSame (own s) (new s) → (epoch : ℕ) (lease : Option LeasePass) (call : Call) (verdict : Verdict) (place : ℕ) (reply : Reply)
+      (stage : Stage) → column p t s ≡ stage → answer.Done place reply ≡ applied epoch lease call verdict stage (own s)
+      → Facts p begins move (put s new own) after
+  called_kept after new same epoch lease call verdict place reply Away e a = cc
+  called_kept after new same epoch lease call verdict place reply (Here (Froze dest number) state) e a = cc
+  called_kept after new same epoch lease call verdict place reply (Here Serves state) e a =
       let it = is_source p t s Serves state e in
       let now : Facts (At s) begins move own t = known_phase it.phase facts in
-      known_phase (sym it.phase) (called_at now after s (λ r. record (own r) { count = place }) (record { held = refl; known = refl; installed = refl }))
-  called_kept after epoch call verdict place reply (Here (Closes dest number) state) e a =
+      known_phase (sym it.phase) (called_at now after s new same)
+  called_kept after new same epoch lease call verdict place reply (Here (Closes dest number) state) e a =
       let it = is_source p t s (Closes dest number) state e in
       let now : Facts (Closing s dest number) begins move own t = known_phase it.phase facts in
-      known_phase (sym it.phase) (called_closing now after s (λ r. record (own r) { count = place }) (record { held = refl; known = refl; installed = refl }))
+      known_phase (sym it.phase) (called_closing now after s new same)
+
+  pub swept_kept : (after : Seen) (new : ℕ → Own) → IsSame (own s) (new s) → (party : Party) (stage : Stage) → column p t s ≡ stage
+      → sweep.Ended ≡ swept_at party stage (own s) → Facts p begins move (put s new own) after
+  swept_kept after new same party Away e a = absurd (not_ended party (own s).held a)
+  swept_kept after new same party (Here (Froze dest number) state) e a = absurd (not_off (has_row party state) a)
+  swept_kept after new same party (Here Serves state) e a =
+      let it = is_source p t s Serves state e in
+      let now : Facts (At s) begins move own t = known_phase it.phase facts in
+      known_phase (sym it.phase) (called_at now after s new same)
+  swept_kept after new same party (Here (Closes dest number) state) e a =
+      let it = is_source p t s (Closes dest number) state e in
+      let now : Facts (Closing s dest number) begins move own t = known_phase it.phase facts in
+      known_phase (sym it.phase) (called_closing now after s new same)

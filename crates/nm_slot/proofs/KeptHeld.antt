@@ -1,8 +1,10 @@
 -- Each answered step of a destination keeps the facts.
-use Rattle.std.proofs.Common.{◌≡◌, ◌≢◌, ◌<◌, ℕ, Bool, true, false, cond, refl, sym, subst, ap, ◌∙◌, Option, Some, None, arith, eqb-true, eq-eqb, ne_eqb}
+use Rattle.std.proofs.Common.{◌≡◌, ◌≢◌, ◌<◌, ℕ, Bool, true, false, cond, List, refl, sym, subst, ap, ◌∙◌, Option, Some, None, arith, eqb-true, eq-eqb, ne_eqb}
 use Rattle.std.specs.Prelude.{◌==◌, nat_le}
 use Rattle.std.proofs.lemmas.Bool.{eqb-false}
 use Rattle.std.proofs.lemmas.Bool.Decides.{nat_tests}
+use Rattle.nm_roll.specs.declared.answers.LeasePass.{LeasePass}
+use Rattle.nm_rules.specs.Parties.{Party}
 use Rattle.nm_rules.specs.Seen.{Seen}
 use Rattle.nm_slot.specs.declared.answers.Accept.TheVariants as accept
 use Rattle.nm_slot.specs.declared.answers.Install.TheVariants as install
@@ -28,40 +30,42 @@ held_is_made : (move : ℕ → Move) (s known n : ℕ) (its offer : Offer) → I
 held_is_made move s known n its offer it same made =
     some_same its offer (sym it.made ∙ ap (λ k. (move k).offer) (eqb-true its.number n same) ∙ made)
 
-holds_now : (offer : Offer) (own : Own) (held : Option Offer) → own.held ≡ held → is_offer_of offer.number held ≡ false
-    → own_accepted offer own.held own ≡ own_holding offer own
-holds_now offer own None e is_other = ap (λ h. own_accepted offer h own) e
-holds_now offer own (Some its) e is_other = ap (λ h. own_accepted offer h own) e ∙ ap (λ b. cond b own (own_holding offer own)) is_other
+holds_now : (offer : Offer) (leases : List LeasePass) (own : Own) (held : Option Offer) → own.held ≡ held → is_offer_of offer.number held ≡ false
+    → own_accepted offer leases own.held own ≡ own_holding offer leases own
+holds_now offer leases own None e is_other = ap (λ h. own_accepted offer leases h own) e
+holds_now offer leases own (Some its) e is_other =
+    ap (λ h. own_accepted offer leases h own) e ∙ ap (λ b. cond b own (own_holding offer leases own)) is_other
 
 above : (number known : ℕ) → nat_le number known ≡ false → known < number
 above number known h = grind (arith, nat_tests)
 
-module _ {p : Phase} {begins : ℕ} {move : ℕ → Move} {own : ℕ → Own} {t : Seen} (facts : Facts p begins move own t) (s : ℕ) (offer : Offer)
+module _ {p : Phase} {begins : ℕ} {move : ℕ → Move} {own : ℕ → Own} {t : Seen} (facts : Facts p begins move own t) (s : ℕ) (offer : Offer) (leases : List LeasePass)
     (made : (move offer.number).offer ≡ Some offer) (goes : (move offer.number).dest ≡ s) where
   again : (held : Option Offer) → (own s).held ≡ held → is_offer_of offer.number held ≡ true
-      → Facts p begins (put offer.number (λ k. prepared_move (move k)) move) (put s (λ r. own_accepted offer (own r).held (own r)) own) t
+      → Facts p begins (put offer.number (λ k. prepared_move (move k)) move) (put s (λ r. own_accepted offer leases (own r).held (own r)) own) t
   again None e is_held = cc
   again (Some its) e is_held =
       let it : its ≡ offer = held_is_made move s (own s).known offer.number its offer (facts.agreed.held.held s its e) is_held made in
-      let same : own_accepted offer (own s).held (own s) ≡ own s = ap (λ h. own_accepted offer h (own s)) e ∙ ap (λ b. cond b (own s) (own_holding offer (own s))) is_held in
-      subst (λ o. Facts p begins (put offer.number (λ k. prepared_move (move k)) move) o t) (sym (put_unchanged s (λ r. own_accepted offer (own r).held (own r)) own same))
+      let same : own_accepted offer leases (own s).held (own s) ≡ own s =
+      ap (λ h. own_accepted offer leases h (own s)) e ∙ ap (λ b. cond b (own s) (own_holding offer leases (own s))) is_held in
+      subst (λ o. Facts p begins (put offer.number (λ k. prepared_move (move k)) move) o t) (sym (put_unchanged s (λ r. own_accepted offer leases (own r).held (own r)) own same))
       (prepared facts s offer.number offer (e ∙ ap (λ (o : Offer). Some o) it) made goes)
 
   for_new : is_offer_of offer.number (own s).held ≡ false → (own s).known < offer.number
-      → Facts p begins (put offer.number (λ k. prepared_move (move k)) move) (put s (λ r. own_accepted offer (own r).held (own r)) own) t
+      → Facts p begins (put offer.number (λ k. prepared_move (move k)) move) (put s (λ r. own_accepted offer leases (own r).held (own r)) own) t
   for_new is_other new =
-      let holding : ℕ → Own = λ r. own_holding offer (own r) in
+      let holding : ℕ → Own = λ r. own_holding offer leases (own r) in
       subst (λ o. Facts p begins (put offer.number (λ k. prepared_move (move k)) move) o t)
-      (sym (put_like s (λ r. own_accepted offer (own r).held (own r)) holding own (holds_now offer (own s) (own s).held refl is_other)))
-      (prepared (accepted facts s offer made goes new) s offer.number offer (ap (λ (o : Own). o.held) (put_there s holding own)) made goes)
+      (sym (put_like s (λ r. own_accepted offer leases (own r).held (own r)) holding own (holds_now offer leases (own s) (own s).held refl is_other)))
+      (prepared (accepted facts s offer leases made goes new) s offer.number offer (ap (λ (o : Own). o.held) (put_there s holding own)) made goes)
 
   pub held_kept : (stage : Stage) → accept.Held ≡ accept_by offer.number stage (own s)
-      → Facts p begins (put offer.number (λ k. prepared_move (move k)) move) (put s (λ r. own_accepted offer (own r).held (own r)) own) t
+      → Facts p begins (put offer.number (λ k. prepared_move (move k)) move) (put s (λ r. own_accepted offer leases (own r).held (own r)) own) t
   held_kept stage a = by_tests (is_offer_of offer.number (own s).held) refl (nat_le offer.number (own s).known) refl a
     where
       by_tests : (same : Bool) → is_offer_of offer.number (own s).held ≡ same → (old : Bool) → nat_le offer.number (own s).known ≡ old
           → accept.Held ≡ cond same accept.Held (cond old (accept.Old (own s).known) (accepted_at stage))
-          → Facts p begins (put offer.number (λ k. prepared_move (move k)) move) (put s (λ r. own_accepted offer (own r).held (own r)) own) t
+          → Facts p begins (put offer.number (λ k. prepared_move (move k)) move) (put s (λ r. own_accepted offer leases (own r).held (own r)) own) t
       by_tests true e old f a = again (own s).held refl e
       by_tests false e true f a = cc
       by_tests false e false f a = for_new e (above offer.number (own s).known f)
@@ -140,11 +144,11 @@ pub record IsReady (p : Phase) (t : Seen) (s n : ℕ) (o : Option Offer) : Type 
   pub number : offer.number ≡ n
   pub state : offer.state ≡ t
 
-pub passes_on : (source s n : ℕ) → source ≢ s → next (Passing source s n) s (Installing n install.Now) ≡ At s
-passes_on source s n apart = rw (ne_eqb s source (λ e. apart (sym e)), eq-eqb s s refl, eq-eqb n n refl) refl
+pub passes_on : (source s n : ℕ) (ends : List Party) → source ≢ s → next (Passing source s n) s (Installing n ends install.Now) ≡ At s
+passes_on source s n ends apart = rw (ne_eqb s source (λ e. apart (sym e)), eq-eqb s s refl, eq-eqb n n refl) refl
 
-pub passed_to : (p : Phase) (t : Seen) (s n : ℕ) (o : Option Offer) → IsReady p t s n o → next p s (Installing n install.Now) ≡ At s
-passed_to p t s n o ready = ap (λ q. next q s (Installing n install.Now)) ready.phase ∙ passes_on ready.source s n ready.apart
+pub passed_to : (p : Phase) (t : Seen) (s n : ℕ) (ends : List Party) (o : Option Offer) → IsReady p t s n o → next p s (Installing n ends install.Now) ≡ At s
+passed_to p t s n ends o ready = ap (λ q. next q s (Installing n ends install.Now)) ready.phase ∙ passes_on ready.source s n ends ready.apart
 
 module _ {p : Phase} {begins : ℕ} {move : ℕ → Move} {own : ℕ → Own} {t : Seen} (facts : Facts p begins move own t) (s n : ℕ)
     (goes : (move n).dest ≡ s) where
@@ -169,12 +173,12 @@ module _ {p : Phase} {begins : ℕ} {move : ℕ → Move} {own : ℕ → Own} {t
       let not_done : (move n).fate ≢ Done = not_done_yet move s (own s).known n it.offer it.number (facts.agreed.held.held s it.offer it.holds) in
       handed_to (handed_fate (move n).fate handed not_done)
 
-  pub now_kept : is_handed (move n).fate ≡ true → install.Now ≡ install_by n (own s)
-      → Facts (next p s (Installing n install.Now)) begins (put n (λ k. done_move (move k)) move) (put s (λ r. own_installed n (own r).held (own r)) own) t
-  now_kept handed a =
+  pub now_kept : (after : Seen) (ends : List Party) → is_handed (move n).fate ≡ true → install.Now ≡ install_by n (own s)
+      → Facts (next p s (Installing n ends install.Now)) begins (put n (λ k. done_move (move k)) move) (put s (λ r. own_installed n ends (own r).held (own r)) own) after
+  now_kept after ends handed a =
       let ready = is_ready handed a in
       let now : Facts (Passing ready.source s n) begins move own t = known_phase ready.phase facts in
-      known_phase (sym (passed_to p t s n (own s).held ready))
-      (subst (λ o. Facts (At s) begins (put n (λ k. done_move (move k)) move) o t)
-      (sym (put_like s (λ r. own_installed n (own r).held (own r)) (λ r. own_serving n ready.offer (own r)) own (ap (λ h. own_installed n h (own s)) ready.holds)))
-      (installed now ready.offer ready.holds ready.number))
+      known_phase (sym (passed_to p t s n ends (own s).held ready))
+      (subst (λ o. Facts (At s) begins (put n (λ k. done_move (move k)) move) o after)
+      (sym (put_like s (λ r. own_installed n ends (own r).held (own r)) (λ r. own_serving n ends ready.offer (own r)) own (ap (λ h. own_installed n ends h (own s)) ready.holds)))
+      (installed now after ends ready.offer ready.holds ready.number))

@@ -1,4 +1,5 @@
 pub mod Agreed
+pub mod DoorLemmas
 pub mod Facts
 pub mod Freezes
 pub mod HistoryFacts

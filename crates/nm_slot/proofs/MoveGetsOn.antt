@@ -3,12 +3,13 @@ use Rattle.std.proofs.Common.{◌≡◌, ◌≢◌, ◌<◌, ℕ, Bool, true, fa
 use Rattle.std.specs.Prelude.{◌+◌, ◌-◌, ◌||◌, nat_le}
 use Rattle.std.proofs.lemmas.Bool.Decides.{nat_tests}
 use Rattle.nm_rules.specs.Holders.{holders}
+use Rattle.nm_rules.specs.Parties.{Party}
 use Rattle.nm_rules.specs.Seen.{Seen}
 use Rattle.nm_slot.specs.declared.answers.Accept.TheVariants as accept
 use Rattle.nm_slot.specs.declared.answers.Begin.TheVariants as begin
 use Rattle.nm_slot.specs.declared.answers.Freeze.TheVariants as freeze
 use Rattle.nm_slot.specs.declared.answers.Install.TheVariants as install
-use Rattle.nm_slot.specs.Answers.{begun as begin_by, is_at_end, frozen as freeze_by, offered, committed as commit_by, accepted as accept_by, installed as install_by, is_offer_of, begin_answer, freeze_answer, image_answer, commit_answer, accept_answer, install_answer}
+use Rattle.nm_slot.specs.Answers.{begun as begin_by, is_at_end, frozen as freeze_by, offered, committed as commit_by, accepted as accept_by, installed as install_by, is_offer_of, begin_answer, freeze_answer, image_answer, commit_answer, accept_answer, install_answer, install_ends}
 use Rattle.nm_slot.specs.Changes.{own_after}
 use Rattle.nm_slot.specs.History.{Home, dest_from, own_now, tables_now, slot_now, passes_now, is_out, IsHistory}
 use Rattle.nm_slot.specs.Laws.{MayMoveTo}
@@ -90,11 +91,11 @@ installs_here number offer own holds its =
 
 pub installs : (home : Home) (h : List Moment) (source dest number : ℕ) → IsHistory home h
     → phase_now home.first h ≡ Passing source dest number
-    → IsHistory home (record { server = dest; step = Installing number install.Now } ∷ h)
+    → IsHistory home (record { server = dest; step = Installing number (install_ends (slot_now home h dest)) install.Now } ∷ h)
 unfolding install_answer slot_now
 installs home h source dest number it passing = (
   record {
-    answered = installs_here number (offer_now number (tables_now home h) (own_now home.first h source)) (own_now home.first h dest) here.offers.ready refl;
+    answered = (installs_here number (offer_now number (tables_now home h) (own_now home.first h source)) (own_now home.first h dest) here.offers.ready refl, refl);
     delivered = (ap is_handed here.offers.going, here.offers.goes_to);
   },
   it,
@@ -115,7 +116,7 @@ abbrev imaging : ℕ → Offer → Moment
 imaging source offer = record { server = source; step = Imaging (Some offer) }
 
 abbrev accepting : ℕ → Offer → Moment
-accepting dest offer = record { server = dest; step = Accepting offer accept.Held }
+accepting dest offer = record { server = dest; step = Accepting offer [] accept.Held }
 
 begins : (home : Home) (h : List Moment) (source dest : ℕ) → IsHistory home h → phase_now home.first h ≡ At source → source ≢ dest
     → is_at_end (own_now home.first h source) ≡ false
@@ -189,12 +190,12 @@ goes_to home h source dest number it frozen = facts.offers.goes_to
 
 phase_accepted : (home : Home) (h : List Moment) (dest : ℕ) (offer : Offer) → phase_now home.first (accepting dest offer ∷ h) ≡ phase_now home.first h
 unfolding phase_now
-phase_accepted home h dest offer = same_phase (phase_now home.first h) dest (Accepting offer accept.Held) refl
+phase_accepted home h dest offer = same_phase (phase_now home.first h) dest (Accepting offer [] accept.Held) refl
 
-phase_installed : (home : Home) (h : List Moment) (source dest number : ℕ) → phase_now home.first h ≡ Passing source dest number → source ≢ dest
-    → phase_now home.first (record { server = dest; step = Installing number install.Now } ∷ h) ≡ At dest
+phase_installed : (home : Home) (h : List Moment) (source dest number : ℕ) (ends : List Party) → phase_now home.first h ≡ Passing source dest number → source ≢ dest
+    → phase_now home.first (record { server = dest; step = Installing number ends install.Now } ∷ h) ≡ At dest
 unfolding phase_now
-phase_installed home h source dest number passing apart = ap (λ p. next p dest (Installing number install.Now)) passing ∙ passes_on source dest number apart
+phase_installed home h source dest number ends passing apart = ap (λ p. next p dest (Installing number ends install.Now)) passing ∙ passes_on source dest number ends apart
 
 -- from a frozen source on
 from_frozen : (home : Home) (h : List Moment) (source dest number : ℕ) → IsHistory home h → phase_now home.first h ≡ Frozen source dest number
@@ -232,10 +233,12 @@ from_frozen home h source dest number it frozen apart new = record {
     passing = next_phase home (accepting dest offer ∷ imaging source offer ∷ h) source handing.step (Frozen source dest number) frozen_on refl
 
     settling : Moment
-    settling = record { server = dest; step = Installing number install.Now }
+    settling = record { server = dest; step = Installing number (install_ends (slot_now home (handing ∷ accepting dest offer ∷ imaging source offer ∷ h) dest)) install.Now }
 
     arrived : phase_now home.first (settling ∷ handing ∷ accepting dest offer ∷ imaging source offer ∷ h) ≡ At dest
-    arrived = phase_installed home (handing ∷ accepting dest offer ∷ imaging source offer ∷ h) source dest number passing apart
+    arrived =
+        phase_installed home (handing ∷ accepting dest offer ∷ imaging source offer ∷ h) source dest number
+        (install_ends (slot_now home (handing ∷ accepting dest offer ∷ imaging source offer ∷ h) dest)) passing apart
 
     settled : IsHistory home (settling ∷ handing ∷ accepting dest offer ∷ imaging source offer ∷ h)
     settled = installs home (handing ∷ accepting dest offer ∷ imaging source offer ∷ h) source dest number handed passing

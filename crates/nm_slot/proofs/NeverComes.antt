@@ -3,16 +3,17 @@ use Rattle.std.proofs.Common.{◌≡◌, ◌≤◌, ℕ, Bool, true, false, cond
 use Rattle.std.specs.Prelude.{◌+◌, ◌-◌, ◌==◌, ◌^◌, ◌&&◌, ◌||◌, not, nat_le}
 use Rattle.std.specs.List.{list_all}
 use Rattle.std.proofs.lemmas.Bool.Decides.{nat_tests}
-use Rattle.nm_rules.specs.Answer.{answer_to}
+use Rattle.nm_roll.specs.declared.answers.LeasePass.{LeasePass}
+use Rattle.nm_rules.specs.Parties.{Party}
 use Rattle.nm_rules.specs.Seen.{Seen}
 use Rattle.nm_rules.specs.declared.calls.Call.{Call}
-use Rattle.nm_rules.specs.declared.calls.Event.TheVariants.{Asked}
 use Rattle.nm_rules.specs.declared.calls.Verdict.{Verdict}
 use Rattle.nm_slot.specs.declared.answers.Accept.TheVariants as accept
 use Rattle.nm_slot.specs.declared.answers.Answer.{Answer}
 use Rattle.nm_slot.specs.declared.answers.Answer.TheVariants as answer
 use Rattle.nm_slot.specs.declared.answers.Install.TheVariants as install
-use Rattle.nm_slot.specs.Answers.{applied, called, accepted as accept_by, accepted_at, installed as install_by, is_offer_of, apply_answer, accept_answer, install_answer}
+use Rattle.nm_slot.specs.Eras.{is_late, era_seen}
+use Rattle.nm_slot.specs.Answers.{applied, called, done_after, is_full, ends_before, accepted as accept_by, accepted_at, installed as install_by, is_offer_of, apply_answer, accept_answer, install_answer}
 use Rattle.nm_slot.specs.History.{Home, own_now, tables_now, passes_now, slot_now, is_out, IsAnswered, IsDelivered, IsHistory}
 use Rattle.nm_slot.specs.Laws.{NeverComes}
 use Rattle.nm_slot.specs.Moves.{Move, Fate, move_now, is_handed}
@@ -47,17 +48,19 @@ of_epoch epoch its (x ∷ xs) all out = by_tests (x == epoch) (x == its) refl re
     by_tests true true e f all out later = sym (eqb-true x epoch e) ∙ eqb-true x its f
     by_tests false true e f all out later = later all out
 
-not_strayed : (pass slot epoch : ℕ) (call : Call) (verdict : Verdict) (state : Seen) (own : Own) → epoch ≡ own.epoch
-    → answer.Strayed pass slot ≡ called epoch call verdict state own → ⊥
-not_strayed pass slot epoch call verdict state own e a = by_last (nat_le (2 ^ 63 - 2 ^ 17) own.count) (a ∙ ap (λ b. rest (not b)) (eq-eqb epoch own.epoch e))
+not_strayed : (pass slot epoch : ℕ) (lease : Option LeasePass) (call : Call) (verdict : Verdict) (state : Seen) (ends : List Party) (own : Own) → epoch ≡ own.epoch
+    → answer.Strayed pass slot ≡ called epoch lease call verdict state ends own → ⊥
+not_strayed pass slot epoch lease call verdict state ends own e a =
+    by_tests (is_late lease own.eras) (is_full own) (a ∙ ap (λ b. rest (not b)) (eq-eqb epoch own.epoch e))
   where
     rest : Bool → Answer
     rest strayed = cond strayed (answer.Strayed epoch own.epoch)
-        (cond (nat_le (2 ^ 63 - 2 ^ 17) own.count) (answer.Last own.count) (answer.Done (own.count + 1) (answer_to state (Asked call verdict))))
+        (cond (is_late lease own.eras) (answer.Ended (era_seen lease own.eras)) (cond (is_full own) (answer.Last own.count) (done_after ends call verdict state own)))
 
-    by_last : (b : Bool) → answer.Strayed pass slot ≡ cond b (answer.Last own.count) (answer.Done (own.count + 1) (answer_to state (Asked call verdict))) → ⊥
-    by_last true a = cc
-    by_last false a = cc
+    by_tests : (late full : Bool) → answer.Strayed pass slot ≡ cond late (answer.Ended (era_seen lease own.eras)) (cond full (answer.Last own.count) (done_after ends call verdict state own)) → ⊥
+    by_tests true full a = cc
+    by_tests false true a = cc
+    by_tests false false a = cc
 
 away_none : (p : Phase) (t : Seen) (s : ℕ) (passes : List ℕ) → column p t s ≡ Away → AreOutAt p s passes → passes ≡ []
 away_none (At q) t s passes e out = out (λ same. elsewhere (s == q) (eq-eqb s q same) e)
@@ -73,14 +76,14 @@ away_none (Closing q dest number) t s passes e out = out (λ same. elsewhere (s 
 away_none (Frozen q dest number) t s passes e out = out
 away_none (Passing q dest number) t s passes e out = out
 
-never_strays : (p : Phase) (t : Seen) (s epoch pass slot : ℕ) (call : Call) (verdict : Verdict) (own : Own) (passes : List ℕ) (stage : Stage) → column p t s ≡ stage
-    → answer.Strayed pass slot ≡ applied epoch call verdict stage own → is_out epoch passes ≡ true → AreOutAt p s passes → AreCounted own passes → ⊥
-never_strays p t s epoch pass slot call verdict own passes Away e a d out it = not_out epoch passes d (away_none p t s passes e out)
-never_strays p t s epoch pass slot call verdict own passes (Here Serves state) e a d out it =
-    not_strayed pass slot epoch call verdict state own (of_epoch epoch own.epoch passes it.epochs d) a
-never_strays p t s epoch pass slot call verdict own passes (Here (Closes dest number) state) e a d out it =
-    not_strayed pass slot epoch call verdict state own (of_epoch epoch own.epoch passes it.epochs d) a
-never_strays p t s epoch pass slot call verdict own passes (Here (Froze dest number) state) e a d out it =
+never_strays : (p : Phase) (t : Seen) (s epoch pass slot : ℕ) (lease : Option LeasePass) (call : Call) (verdict : Verdict) (own : Own) (passes : List ℕ) (stage : Stage) → column p t s ≡ stage
+    → answer.Strayed pass slot ≡ applied epoch lease call verdict stage own → is_out epoch passes ≡ true → AreOutAt p s passes → AreCounted own passes → ⊥
+never_strays p t s epoch pass slot lease call verdict own passes Away e a d out it = not_out epoch passes d (away_none p t s passes e out)
+never_strays p t s epoch pass slot lease call verdict own passes (Here Serves state) e a d out it =
+    not_strayed pass slot epoch lease call verdict state (ends_before lease (Here Serves state) own.eras) own (of_epoch epoch own.epoch passes it.epochs d) a
+never_strays p t s epoch pass slot lease call verdict own passes (Here (Closes dest number) state) e a d out it =
+    not_strayed pass slot epoch lease call verdict state (ends_before lease (Here (Closes dest number) state) own.eras) own (of_epoch epoch own.epoch passes it.epochs d) a
+never_strays p t s epoch pass slot lease call verdict own passes (Here (Froze dest number) state) e a d out it =
     not_out epoch passes d (subst (λ q. AreOutAt q s passes) (is_source p t s (Froze dest number) state e).phase out)
 
 -- ---- no offer meets the file system itself
@@ -145,12 +148,12 @@ never_now : (p : Phase) (begins : ℕ) (move : ℕ → Move) (own : ℕ → Own)
     → IsAnswered (record { fs = fs; stage = column p t s; own = own s }) step → IsDelivered move passes s step
     → Facts p begins move own t → AreOutAt p s passes → AreCounted (own s) passes → NeverComes step
 unfolding apply_answer accept_answer install_answer
-never_now p begins move own t fs s passes (Applying epoch call verdict (answer.Strayed pass slot)) a d facts out it =
-    never_strays p t s epoch pass slot call verdict (own s) passes (column p t s) refl a d out it
-never_now p begins move own t fs s passes (Accepting offer accept.Live) a d facts out it =
+never_now p begins move own t fs s passes (Applying epoch lease call verdict ends (answer.Strayed pass slot)) a d facts out it =
+    never_strays p t s epoch pass slot lease call verdict (own s) passes (column p t s) refl a.0 d out it
+never_now p begins move own t fs s passes (Accepting offer leases accept.Live) a d facts out it =
     never_live p begins move own t s offer (column p t s) refl a d.0 facts
-never_now p begins move own t fs s passes (Installing n install.Absent) a d facts out it =
-    never_absent p begins move own t s n a d.0 d.1 facts
+never_now p begins move own t fs s passes (Installing n ends install.Absent) a d facts out it =
+    never_absent p begins move own t s n a.0 d.0 d.1 facts
 never_now p begins move own t fs s passes _ a d facts out it = tt
 
 pub never_come : (home : Home) (h : List Moment) (x : Moment) → IsHistory home (x ∷ h) → NeverComes x.step

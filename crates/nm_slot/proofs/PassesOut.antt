@@ -3,6 +3,8 @@
 use Rattle.std.proofs.Common.{◌≡◌, ◌≢◌, ℕ, Bool, true, false, cond, List, [], ◌∷◌, length, refl, sym, subst, ap, ◌∙◌, Option, Some, None, arith, eqb-true, eq-eqb}
 use Rattle.std.specs.Prelude.{◌-◌, ◌==◌, ◌^◌, ◌&&◌, ◌||◌, nat_le}
 use Rattle.std.specs.List.{list_all, list_any}
+use Rattle.nm_roll.specs.declared.answers.LeasePass.{LeasePass}
+use Rattle.nm_rules.specs.Parties.{Party}
 use Rattle.nm_rules.specs.Seen.{Seen}
 use Rattle.nm_slot.specs.declared.answers.Abandon.TheVariants as abandon
 use Rattle.nm_slot.specs.declared.answers.Accept.TheVariants as accept
@@ -11,8 +13,10 @@ use Rattle.nm_slot.specs.declared.answers.Begin.TheVariants as begin
 use Rattle.nm_slot.specs.declared.answers.Enter.TheVariants as enter
 use Rattle.nm_slot.specs.declared.answers.Freeze.TheVariants as freeze
 use Rattle.nm_slot.specs.declared.answers.Install.TheVariants as install
-use Rattle.nm_slot.specs.Answers.{installed as install_by, entered, turned_away, frozen as freeze_by, enter_answer, freeze_answer, install_answer}
-use Rattle.nm_slot.specs.Changes.{own_after, own_accepted, own_installed}
+use Rattle.nm_slot.specs.declared.answers.Swept.TheVariants as sweep
+use Rattle.nm_slot.specs.Eras.{marked}
+use Rattle.nm_slot.specs.Answers.{is_past, installed as install_by, entered, turned_away, frozen as freeze_by, enter_answer, freeze_answer, install_answer}
+use Rattle.nm_slot.specs.Changes.{own_after, own_swept, own_accepted, own_installed}
 use Rattle.nm_slot.specs.History.{Home, dest_from, own_now, tables_now, slot_now, passes_now, passes_after, without_one, is_out, IsAnswered, IsDelivered, IsHistory}
 use Rattle.nm_slot.specs.Moves.{Move, move_now, is_handed}
 use Rattle.nm_slot.specs.Passes.{PassNow}
@@ -22,7 +26,7 @@ use Rattle.nm_slot.specs.SlotNow.{Stage, Offer, Left, Own, SlotStep}
 use Rattle.nm_slot.specs.SlotNow.Doing.{Serves, Closes, Froze}
 use Rattle.nm_slot.specs.SlotNow.Stage.{Away, Here}
 use Rattle.nm_slot.specs.SlotNow.HandedOver.{Committed}
-use Rattle.nm_slot.specs.SlotNow.SlotStep.{Entering, Leaving, Applying, Beginning, Freezing, Committing, Abandoning, Accepting, Installing, Withdrawing}
+use Rattle.nm_slot.specs.SlotNow.SlotStep.{Entering, Leaving, Applying, Sweeping, Beginning, Freezing, Committing, Abandoning, Accepting, Installing, Withdrawing}
 use Rattle.nm_slot.proofs.Facts.{Facts}
 use Rattle.nm_slot.proofs.HistoryFacts.{facts_of, begins_now}
 use Rattle.nm_slot.proofs.Inversions.{is_source, same_phase}
@@ -54,7 +58,7 @@ out_at_source : (p : Phase) (s : ℕ) (step : SlotStep) (passes : List ℕ) → 
 out_at_source (At q) s (Beginning here dest (begin.Begun number)) passes none out = out
 out_at_source (At q) s _ passes none out = out
 out_at_source (Closing q dest number) s (Freezing (freeze.Frozen its)) passes none out = none refl
-out_at_source (Closing q dest number) s (Abandoning (abandon.Back its)) passes none out = out
+out_at_source (Closing q dest number) s (Abandoning ends (abandon.Back its)) passes none out = out
 out_at_source (Closing q dest number) s _ passes none out = out
 out_at_source (Frozen q dest number) s step passes none out = none_out (after_at_source (Frozen q dest number) step) s passes out
 out_at_source (Passing q dest number) s step passes none out = out
@@ -94,7 +98,7 @@ pub record AreCounted (own : Own) (passes : List ℕ) : Type 0 where
 abbrev FitsPasses : SlotStep → Own → List ℕ → Type 0
 FitsPasses (Entering (enter.Entered pass)) own passes = pass.epoch ≡ own.epoch
 FitsPasses (Leaving epoch) own passes = is_out epoch passes ≡ true
-FitsPasses (Installing number install.Now) own passes = passes ≡ []
+FitsPasses (Installing number ends install.Now) own passes = passes ≡ []
 FitsPasses _ own passes = Unit {0}
 
 counted_same : (own new : Own) (passes : List ℕ) → new.out ≡ own.out → new.epoch ≡ own.epoch → AreCounted own passes → AreCounted new passes
@@ -128,18 +132,28 @@ all_but_one epoch p (x ∷ xs) e = by_test (x == epoch) (and_parts (p x) (list_a
     by_test true both later = both.1
     by_test false both later = rw (both.0, later both.1) refl
 
-accepted_out : (offer : Offer) (held : Option Offer) (own : Own) → ((own_accepted offer held own).out ≡ own.out) × ((own_accepted offer held own).epoch ≡ own.epoch)
-accepted_out offer None own = (refl, refl)
-accepted_out offer (Some its) own = by_test (its.number == offer.number)
+accepted_out : (offer : Offer) (leases : List LeasePass) (held : Option Offer) (own : Own)
+    → ((own_accepted offer leases held own).out ≡ own.out) × ((own_accepted offer leases held own).epoch ≡ own.epoch)
+accepted_out offer leases None own = (refl, refl)
+accepted_out offer leases (Some its) own = by_test (its.number == offer.number)
   where
-    by_test : (b : Bool) → ((cond b own (record own { held = Some offer; known = offer.number })).out ≡ own.out)
-        × ((cond b own (record own { held = Some offer; known = offer.number })).epoch ≡ own.epoch)
+    by_test : (b : Bool) → ((cond b own (record own { held = Some offer; brought = leases; known = offer.number })).out ≡ own.out)
+        × ((cond b own (record own { held = Some offer; brought = leases; known = offer.number })).epoch ≡ own.epoch)
     by_test true = (refl, refl)
     by_test false = (refl, refl)
 
-installed_out : (number : ℕ) (held : Option Offer) (own : Own) → own.out ≡ 0 → AreCounted (own_installed number held own) []
-installed_out number None own e = record { counted = e; epochs = refl }
-installed_out number (Some offer) own e = record { counted = e; epochs = refl }
+installed_out : (number : ℕ) (ends : List Party) (held : Option Offer) (own : Own) → own.out ≡ 0 → AreCounted (own_installed number ends held own) []
+installed_out number ends None own e = record { counted = e; epochs = refl }
+installed_out number ends (Some offer) own e = record { counted = e; epochs = refl }
+
+nothing_out : (party : Party) (era : ℕ) (own : Own)
+    → ((own_swept sweep.Nothing party era [] own).out ≡ own.out) × ((own_swept sweep.Nothing party era [] own).epoch ≡ own.epoch)
+nothing_out party era own = by_test (is_past party era own)
+  where
+    by_test : (b : Bool) → ((cond b own (record own { eras = marked party era own.eras })).out ≡ own.out)
+        × ((cond b own (record own { eras = marked party era own.eras })).epoch ≡ own.epoch)
+    by_test true = (refl, refl)
+    by_test false = (refl, refl)
 
 counted_after : (step : SlotStep) (dest : ℕ) (own : Own) (passes : List ℕ) → FitsPasses step own passes → AreCounted own passes
     → AreCounted (own_after step dest own) (passes_after step passes)
@@ -151,13 +165,19 @@ counted_after (Leaving epoch) dest own passes fits it = record {
   counted = omega (arith, it.counted, one_fewer epoch passes fits);
   epochs = all_but_one epoch (λ e. e == own.epoch) passes it.epochs;
 }
-counted_after (Applying epoch call verdict (answer.Done place reply)) dest own passes fits it = record { counted = it.counted; epochs = it.epochs }
+counted_after (Applying epoch lease call verdict ends (answer.Done place reply)) dest own passes fits it = record { counted = it.counted; epochs = it.epochs }
+counted_after (Sweeping party era ends sweep.Ended) dest own passes fits it = record { counted = it.counted; epochs = it.epochs }
+counted_after (Sweeping party era ends sweep.PutOff) dest own passes fits it = record { counted = it.counted; epochs = it.epochs }
+counted_after (Sweeping party era ends sweep.Nothing) dest own passes fits it =
+    let same = nothing_out party era own in
+    counted_same own (own_swept sweep.Nothing party era ends own) passes same.0 same.1 it
+counted_after (Abandoning ends (abandon.Back number)) dest own passes fits it = record { counted = it.counted; epochs = it.epochs }
 counted_after (Beginning here to (begin.Begun number)) dest own passes fits it = record { counted = it.counted; epochs = it.epochs }
 counted_after (Committing number (Committed parties)) dest own passes fits it = record { counted = it.counted; epochs = it.epochs }
-counted_after (Accepting offer accept.Held) dest own passes fits it =
-    let same = accepted_out offer own.held own in counted_same own (own_accepted offer own.held own) passes same.0 same.1 it
-counted_after (Installing number install.Now) dest own passes fits it =
-    subst (λ es. AreCounted (own_installed number own.held own) es) (sym fits) (installed_out number own.held own (it.counted ∙ ap (λ (es : List ℕ). length es) fits))
+counted_after (Accepting offer leases accept.Held) dest own passes fits it =
+    let same = accepted_out offer leases own.held own in counted_same own (own_accepted offer leases own.held own) passes same.0 same.1 it
+counted_after (Installing number ends install.Now) dest own passes fits it =
+    subst (λ es. AreCounted (own_installed number ends own.held own) es) (sym fits) (installed_out number ends own.held own (it.counted ∙ ap (λ (es : List ℕ). length es) fits))
 counted_after (Withdrawing number true) dest own passes fits it = record { counted = it.counted; epochs = it.epochs }
 counted_after (Withdrawing number false) dest own passes fits it = record { counted = it.counted; epochs = it.epochs }
 counted_after _ dest own passes fits it = it
@@ -224,7 +244,7 @@ fits : (p : Phase) (begins : ℕ) (move : ℕ → Move) (own : ℕ → Own) (t :
 unfolding enter_answer install_answer
 fits p begins move own t fs s passes (Entering (enter.Entered pass)) a d facts out = (is_entered p t s fs (own s) pass (column p t s) refl a).epoch
 fits p begins move own t fs s passes (Leaving epoch) a d facts out = d
-fits p begins move own t fs s passes (Installing n install.Now) a d facts out = none_installed p begins move own t s n passes a d.0 d.1 facts out
+fits p begins move own t fs s passes (Installing n ends install.Now) a d facts out = none_installed p begins move own t s n passes a.0 d.0 d.1 facts out
 fits p begins move own t fs s passes _ a d facts out = tt
 
 freezes : (p : Phase) (t : Seen) (fs s : ℕ) (own : Own) (passes : List ℕ) (step : SlotStep)

@@ -1,5 +1,6 @@
 -- An offer that is held, or comes again, keeps the facts.
-use Rattle.std.proofs.Common.{◌≡◌, ◌≢◌, ◌<◌, ◌≤◌, ℕ, true, false, refl, sym, subst, ap, ◌∙◌, Some, None, arith}
+use Rattle.std.proofs.Common.{◌≡◌, ◌≢◌, ◌<◌, ◌≤◌, ℕ, true, false, refl, sym, subst, ap, ◌∙◌, List, Some, None, arith}
+use Rattle.nm_roll.specs.declared.answers.LeasePass.{LeasePass}
 use Rattle.nm_rules.specs.Seen.{Seen}
 use Rattle.nm_slot.specs.Moves.{Move, Fate}
 use Rattle.nm_slot.specs.Moves.Fate.{UnderWay, Handed}
@@ -100,8 +101,8 @@ offers_prepared (Passing source dest number) begins move own t s n offer held ma
     (λ at. record { latest = at.latest; apart = at.apart; goes_to = at.goes_to; going = at.going; ready = at.ready })
     (λ k ne at. at) number offers
 
-abbrev pub own_holding : Offer → Own → Own
-own_holding offer own = record own { held = Some offer; known = offer.number }
+abbrev pub own_holding : Offer → List LeasePass → Own → Own
+own_holding offer leases own = record own { held = Some offer; brought = leases; known = offer.number }
 
 module _ {p : Phase} {begins : ℕ} {move : ℕ → Move} {own : ℕ → Own} {t : Seen} (facts : Facts p begins move own t) where
   -- word that an offer is held
@@ -120,10 +121,10 @@ module _ {p : Phase} {begins : ℕ} {move : ℕ → Move} {own : ℕ → Own} {t
   }
 
   -- a new offer is held
-  pub accepted : (s : ℕ) (offer : Offer) → (move offer.number).offer ≡ Some offer → (move offer.number).dest ≡ s → (own s).known < offer.number
-      → Facts p begins move (put s (λ r. own_holding offer (own r)) own) t
-  accepted s offer made goes new = record {
-    agreed = agreed_later s (λ r. own_holding offer (own r)) (record {
+  pub accepted : (s : ℕ) (offer : Offer) (leases : List LeasePass) → (move offer.number).offer ≡ Some offer → (move offer.number).dest ≡ s → (own s).known < offer.number
+      → Facts p begins move (put s (λ r. own_holding offer leases (own r)) own) t
+  accepted s offer leases made goes new = record {
+    agreed = agreed_later s (λ r. own_holding offer leases (own r)) (record {
       grows = omega (arith, new);
       installed = λ n e k. e;
       begun = is_begun;
@@ -135,8 +136,8 @@ module _ {p : Phase} {begins : ℕ} {move : ℕ → Move} {own : ℕ → Own} {t
         is_known = omega arith;
       });
     }) facts.agreed;
-    offers = offers_kept p begins move own (put s (λ r. own_holding offer (own r)) own) t
-        (kept_by (source_of p) begins s move own (λ r. own_holding offer (own r)) refl refl
+    offers = offers_kept p begins move own (put s (λ r. own_holding offer leases (own r)) own) t
+        (kept_by (source_of p) begins s move own (λ r. own_holding offer leases (own r)) refl refl
         (λ its e latest going. let before = facts.agreed.held.held s its e in absurd (omega (arith, new, is_begun, before.is_known, latest))))
         facts.offers;
   }

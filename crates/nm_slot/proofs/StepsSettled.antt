@@ -1,9 +1,10 @@
 -- What a destination is told of a move that is over keeps the facts.
-use Rattle.std.proofs.Common.{◌≡◌, ◌≢◌, ◌≤◌, ℕ, Bool, true, false, refl, sym, subst, ap, ◌∙◌, Option, Some, None, arith, eqb-true}
+use Rattle.std.proofs.Common.{◌≡◌, ◌≢◌, ◌≤◌, ℕ, Bool, true, false, List, refl, sym, subst, ap, ◌∙◌, Option, Some, None, arith, eqb-true}
 use Rattle.std.specs.Prelude.{max}
+use Rattle.nm_rules.specs.Parties.{Party}
 use Rattle.nm_rules.specs.Seen.{Seen}
 use Rattle.nm_slot.specs.Answers.{is_offer_of}
-use Rattle.nm_slot.specs.Changes.{own_withdrawn}
+use Rattle.nm_slot.specs.Changes.{own_withdrawn, own_installed}
 use Rattle.nm_slot.specs.Moves.{Move}
 use Rattle.nm_slot.specs.Moves.Fate.{GivenUp, Done}
 use Rattle.nm_slot.specs.Phases.{Phase, source_of}
@@ -63,8 +64,8 @@ module _ {p : Phase} {begins : ℕ} {move : ℕ → Move} {own : ℕ → Own} {t
 
 -- ---- it was handed over
 
-abbrev pub own_serving : ℕ → Offer → Own → Own
-own_serving number offer own = record own { held = None; installed = number; epoch = offer.epoch; count = offer.count }
+abbrev pub own_serving : ℕ → List Party → Offer → Own → Own
+own_serving number ends offer own = own_installed number ends (Some offer) own
 
 abbrev pub done_move : Move → Move
 done_move m = record m { fate = Done }
@@ -76,10 +77,10 @@ for_another s r known number offer move ne goes it =
     subst (λ m. IsFor r known offer m) (sym (put_elsewhere number offer.number (λ k. done_move (move k)) move
     (λ e. ne (sym goes ∙ ap (λ k. (move k).dest) e ∙ it.goes_to)))) it
 
-pub installed : {source s number begins : ℕ} {move : ℕ → Move} {own : ℕ → Own} {t : Seen} (facts : Facts (Passing source s number) begins move own t) (offer : Offer)
-    → (own s).held ≡ Some offer → offer.number ≡ number
-    → Facts (At s) begins (put number (λ k. done_move (move k)) move) (put s (λ r. own_serving number offer (own r)) own) t
-installed {source = source} {s = s} {number = number} {begins = begins} {move = move} {own = own} facts offer held its = record {
+pub installed : {source s number begins : ℕ} {move : ℕ → Move} {own : ℕ → Own} {t : Seen} (facts : Facts (Passing source s number) begins move own t) (after : Seen)
+    (ends : List Party) (offer : Offer) → (own s).held ≡ Some offer → offer.number ≡ number
+    → Facts (At s) begins (put number (λ k. done_move (move k)) move) (put s (λ r. own_serving number ends offer (own r)) own) after
+installed {source = source} {s = s} {number = number} {begins = begins} {move = move} {own = own} facts after ends offer held its = record {
   agreed = record {
     numbers = record { known = further.known; holder = ap (λ (o : Own). o.known) (put_there s serving own) ∙ is_latest; beyond = further.beyond; offered = further.offered };
     held = record {
@@ -98,7 +99,7 @@ installed {source = source} {s = s} {number = number} {begins = begins} {move = 
 }
   where
     serving : ℕ → Own
-    serving r = own_serving number offer (own r)
+    serving r = own_serving number ends offer (own r)
 
     done : ℕ → Move
     done k = done_move (move k)

@@ -1,11 +1,17 @@
 -- What each call on a file system at a server answers, by what the server has of it.
-use Rattle.std.specs.Prelude.{◌==◌, ◌||◌, not, nat_le, nat_lt, ℕ, ◌+◌, ◌-◌, ◌^◌, Bool, true, false, Option, Some, None, if◌then◌else◌}
+use Rattle.std.specs.Prelude.{◌==◌, ◌||◌, ◌&&◌, not, nat_le, nat_lt, ℕ, ◌+◌, ◌-◌, ◌^◌, Bool, true, false, List, [], length, Option, Some, None, Result, Ok, Err, if◌then◌else◌}
+use Rattle.nm_roll.specs.declared.answers.LeasePass.{LeasePass}
 use Rattle.nm_rules.specs.Answer.{answer_to}
-use Rattle.nm_rules.specs.Holders.{holders}
+use Rattle.nm_rules.specs.Holders.{holders, has_row}
+use Rattle.nm_rules.specs.Parties.{Party}
 use Rattle.nm_rules.specs.Seen.{Seen}
 use Rattle.nm_rules.specs.declared.calls.Call.{Call}
 use Rattle.nm_rules.specs.declared.calls.Event.TheVariants.{Asked}
+use Rattle.nm_rules.specs.declared.calls.StateId.{StateId}
 use Rattle.nm_rules.specs.declared.calls.Verdict.{Verdict}
+use Rattle.nm_rules.specs.declared.status.OpStatus.{OpStatus}
+use Rattle.nm_rules.specs.declared.status.OpStatus.TheVariants.{BadStateId}
+use Rattle.nm_state.specs.State.{holder_of}
 use Rattle.nm_slot.specs.declared.answers.Abandon.{Abandon}
 use Rattle.nm_slot.specs.declared.answers.Abandon.TheVariants as abandon
 use Rattle.nm_slot.specs.declared.answers.Accept.{Accept}
@@ -20,6 +26,10 @@ use Rattle.nm_slot.specs.declared.answers.Freeze.{Freeze}
 use Rattle.nm_slot.specs.declared.answers.Freeze.TheVariants as freeze
 use Rattle.nm_slot.specs.declared.answers.Install.{Install}
 use Rattle.nm_slot.specs.declared.answers.Install.TheVariants as install
+use Rattle.nm_slot.specs.declared.answers.Swept.{Swept}
+use Rattle.nm_slot.specs.declared.eras.EraRow.{EraRow}
+use Rattle.nm_slot.specs.declared.answers.Swept.TheVariants as sweep
+use Rattle.nm_slot.specs.Eras.{row_of, is_late, era_seen, one_if, ends_late, ends_brought, after_ends}
 use Rattle.nm_slot.specs.SlotNow.{Doing, Stage, Offer, Left, Own, SlotView, HandedOver}
 use Rattle.nm_slot.specs.SlotNow.Doing.{Serves, Closes, Froze}
 use Rattle.nm_slot.specs.SlotNow.Stage.{Away, Here}
@@ -49,22 +59,90 @@ enter_answer v = entered v.fs v.stage v.own
 
 -- ---- calls
 
--- A pass of this epoch makes a call, while there is room for its entry.
-abbrev pub called : ℕ → Call → Verdict → Seen → Own → Answer
-called epoch call verdict state own =
+-- from so many entries on no call and no sweep makes a further one, so that the ends at an install have room
+abbrev pub is_full : Own → Bool
+is_full own = nat_le (2 ^ 63 - 2 ^ 17) own.count
+
+-- its entry comes after those of the rows that end before it
+abbrev pub done_after : List Party → Call → Verdict → Seen → Own → Answer
+done_after ends call verdict state own =
+    answer.Done (own.count + length ends + 1) (answer_to (after_ends ends state) (Asked call verdict))
+
+-- an instance has something in the state that is here
+abbrev pub has_here : Party → Stage → Bool
+has_here party Away = false
+has_here party (Here doing state) = has_row party state
+
+-- what an instance has of an earlier era ends before its first call of a later one
+abbrev pub ends_before : Option LeasePass → Stage → List EraRow → List Party
+ends_before None stage rows = []
+ends_before (Some lease) stage rows = one_if (nat_lt (row_of lease.instance rows).era lease.era && has_here lease.instance stage) lease.instance
+
+-- A pass of this epoch makes a call whose lease doesn't come too late, while there is room for its entry.
+abbrev pub called : ℕ → Option LeasePass → Call → Verdict → Seen → List Party → Own → Answer
+called epoch lease call verdict state ends own =
     if not (epoch == own.epoch) then answer.Strayed epoch own.epoch else
-    if nat_le (2 ^ 63 - 2 ^ 17) own.count then answer.Last own.count else
-    answer.Done (own.count + 1) (answer_to state (Asked call verdict))
+    if is_late lease own.eras then answer.Ended (era_seen lease own.eras) else
+    if is_full own then answer.Last own.count else
+    done_after ends call verdict state own
 
 -- calls are taken while the state is served, and while its move waits for those under way
-abbrev pub applied : ℕ → Call → Verdict → Stage → Own → Answer
-applied epoch call verdict (Here Serves state) own = called epoch call verdict state own
-applied epoch call verdict (Here (Closes dest number) state) own = called epoch call verdict state own
-applied epoch call verdict (Here (Froze dest number) state) own = answer.Strayed epoch own.epoch
-applied epoch call verdict Away own = answer.Strayed epoch own.epoch
+abbrev pub applied : ℕ → Option LeasePass → Call → Verdict → Stage → Own → Answer
+applied epoch lease call verdict (Here Serves state) own =
+    called epoch lease call verdict state (ends_before lease (Here Serves state) own.eras) own
+applied epoch lease call verdict (Here (Closes dest number) state) own =
+    called epoch lease call verdict state (ends_before lease (Here (Closes dest number) state) own.eras) own
+applied epoch lease call verdict (Here (Froze dest number) state) own = answer.Strayed epoch own.epoch
+applied epoch lease call verdict Away own = answer.Strayed epoch own.epoch
 
-unfoldable pub apply_answer : SlotView → ℕ → Call → Verdict → Answer
-apply_answer v epoch call verdict = applied epoch call verdict v.stage v.own
+unfoldable pub apply_answer : SlotView → ℕ → Option LeasePass → Call → Verdict → Answer
+apply_answer v epoch lease call verdict = applied epoch lease call verdict v.stage v.own
+
+unfoldable pub apply_ends : SlotView → Option LeasePass → List Party
+apply_ends v lease = ends_before lease v.stage v.own.eras
+
+-- the instance for whose owner a stateid stands here, if it can be resolved
+abbrev pub resolved_at : StateId → Stage → Result Party OpStatus
+resolved_at id Away = Err BadStateId
+resolved_at id (Here doing state) = holder_of state id
+
+unfoldable pub resolve_answer : SlotView → StateId → Result Party OpStatus
+resolve_answer v id = resolved_at id v.stage
+
+-- ---- an era that has ended
+
+abbrev pub put_off_if : Bool → Swept
+put_off_if true = sweep.PutOff
+put_off_if false = sweep.Nothing
+
+abbrev pub swept_held : Party → Option Offer → Swept
+swept_held party None = sweep.Nothing
+swept_held party (Some offer) = put_off_if (has_row party offer.state)
+
+abbrev pub swept_here : Own → Swept
+swept_here own = if is_full own then sweep.Last else sweep.Ended
+
+-- The rows end where calls are taken. While the state is frozen or on offer here their end is put off.
+abbrev pub swept_at : Party → Stage → Own → Swept
+swept_at party (Here Serves state) own = swept_here own
+swept_at party (Here (Closes dest number) state) own = swept_here own
+swept_at party (Here (Froze dest number) state) own = put_off_if (has_row party state)
+swept_at party Away own = swept_held party own.held
+
+-- The end of an era that isn't the latest one seen here changes nothing.
+abbrev pub swept_by : Bool → Party → Stage → Own → Swept
+swept_by true party stage own = sweep.Nothing
+swept_by false party stage own = swept_at party stage own
+
+abbrev pub is_past : Party → ℕ → Own → Bool
+is_past party era own = nat_lt era (row_of party own.eras).era
+
+unfoldable pub sweep_answer : SlotView → Party → ℕ → Swept
+sweep_answer v party era = swept_by (is_past party era v.own) party v.stage v.own
+
+-- what it has here would end
+unfoldable pub sweep_ends : SlotView → Party → List Party
+sweep_ends v party = one_if (has_here party v.stage) party
 
 -- ---- the source
 
@@ -136,6 +214,14 @@ abandoned Away own = abandoned_away own.held own.left
 unfoldable pub abandon_answer : SlotView → Abandon
 abandon_answer v = abandoned v.stage v.own
 
+-- Whose rows end where a move is given up: those whose era ended while the state was frozen.
+abbrev pub ends_abandoned : List EraRow → Stage → List Party
+ends_abandoned rows Away = []
+ends_abandoned rows (Here doing state) = ends_late rows state
+
+unfoldable pub abandon_ends : SlotView → List Party
+abandon_ends v = ends_abandoned v.own.eras v.stage
+
 -- ---- the destination
 
 -- the offer of this move is held
@@ -163,6 +249,14 @@ installed number own =
 
 unfoldable pub install_answer : SlotView → ℕ → Install
 install_answer v number = installed number v.own
+
+-- Whose rows end where an offer is installed: those of which the era of their lease, or a later one, ended here.
+abbrev pub ends_installed : Option Offer → Own → List Party
+ends_installed None own = []
+ends_installed (Some offer) own = ends_brought own.brought own.eras offer.state
+
+unfoldable pub install_ends : SlotView → List Party
+install_ends v = ends_installed v.own.held v.own
 
 unfoldable pub withdraw_answer : SlotView → ℕ → Bool
 withdraw_answer v number = is_offer_of number v.own.held

@@ -2,20 +2,28 @@
 -- what was sent is ever delivered, late or often or never.
 use Rattle.std.specs.Prelude.{◌≡◌, ◌==◌, ℕ, Bool, true, List, [], ◌∷◌, Option, Some, None, if◌then◌else◌}
 use Rattle.std.specs.List.{list_any}
+use Rattle.nm_rules.specs.Answer.{reply_with}
 use Rattle.nm_rules.specs.Past.{Past}
 use Rattle.nm_rules.specs.Seen.{Seen, seen}
-use Rattle.nm_rules.specs.declared.calls.Event.TheVariants.{Asked}
+use Rattle.nm_rules.specs.Parties.{Party}
+use Rattle.nm_rules.specs.declared.calls.Entry.{Entry}
+use Rattle.nm_rules.specs.declared.calls.Event.TheVariants.{Asked, Ended}
+use Rattle.nm_rules.specs.declared.calls.ReplyValue.TheVariants as told
+use Rattle.nm_rules.specs.declared.status.OpStatus.TheVariants.{Nfs4Ok}
+use Rattle.nm_slot.specs.declared.answers.Abandon.TheVariants as abandon
 use Rattle.nm_slot.specs.declared.answers.Answer.TheVariants as answer
 use Rattle.nm_slot.specs.declared.answers.Enter.TheVariants as enter
 use Rattle.nm_slot.specs.declared.answers.Freeze.TheVariants as freeze
-use Rattle.nm_slot.specs.Answers.{enter_answer, apply_answer, begin_answer, freeze_answer, image_answer, commit_answer, abandon_answer, accept_answer, install_answer, withdraw_answer}
+use Rattle.nm_slot.specs.declared.answers.Install.TheVariants as install
+use Rattle.nm_slot.specs.declared.answers.Swept.TheVariants as sweep
+use Rattle.nm_slot.specs.Answers.{enter_answer, apply_answer, apply_ends, sweep_answer, sweep_ends, abandon_ends, install_ends, begin_answer, freeze_answer, image_answer, commit_answer, abandon_answer, accept_answer, install_answer, withdraw_answer}
 use Rattle.nm_slot.specs.Changes.{own_after}
 use Rattle.nm_slot.specs.Moves.{Move, Fate, move_now, is_handed}
 use Rattle.nm_slot.specs.Moves.Fate.{GivenUp}
 use Rattle.nm_slot.specs.Phases.{Phase, Moment, phase_now, column}
 use Rattle.nm_slot.specs.Phases.Phase.{At, Closing, Frozen, Passing}
 use Rattle.nm_slot.specs.SlotNow.{Own, SlotView, SlotStep, nothing_yet}
-use Rattle.nm_slot.specs.SlotNow.SlotStep.{Entering, Leaving, Applying, Beginning, Freezing, Imaging, Committing, Abandoning, Accepting, Installing, Withdrawing}
+use Rattle.nm_slot.specs.SlotNow.SlotStep.{Entering, Leaving, Applying, Sweeping, Beginning, Freezing, Imaging, Committing, Abandoning, Accepting, Installing, Withdrawing}
 
 -- A file system: its number, whether it grants delegations, and the server that has it at first.
 pub record Home : Type 0 where
@@ -25,10 +33,22 @@ pub record Home : Type 0 where
 
 -- ---- what is read off the steps so far, the newest first
 
--- a call that was carried out is an entry, whichever server carried it out
+-- the end of an instance
+abbrev pub end_of : Party → Entry
+end_of party = record { event = Ended party; reply = reply_with Nfs4Ok told.Nothing }
+
+-- the ends of instances, one after the other
+abbrev pub with_ends : List Party → Past → Past
+with_ends [] entries = entries
+with_ends (party ∷ parties) entries = with_ends parties (end_of party ∷ entries)
+
+-- A call that was carried out is an entry, whichever server carried it out, and so is each end of an instance's rows.
 abbrev pub with_entry : SlotStep → Past → Past
-with_entry (Applying epoch call verdict (answer.Done place reply)) entries =
-    record { event = Asked call verdict; reply = reply } ∷ entries
+with_entry (Applying epoch lease call verdict ends (answer.Done place reply)) entries =
+    record { event = Asked call verdict; reply = reply } ∷ with_ends ends entries
+with_entry (Sweeping party era ends sweep.Ended) entries = with_ends ends entries
+with_entry (Abandoning ends (abandon.Back number)) entries = with_ends ends entries
+with_entry (Installing number ends install.Now) entries = with_ends ends entries
 with_entry _ entries = entries
 
 -- the one list of entries
@@ -93,14 +113,15 @@ frozen_entries (x ∷ earlier) number = frozen_by number (entries_now earlier) (
 abbrev pub IsAnswered : SlotView → SlotStep → Type 0
 IsAnswered v (Entering a) = a ≡ enter_answer v
 IsAnswered v (Leaving epoch) = Unit {0}
-IsAnswered v (Applying epoch call verdict a) = a ≡ apply_answer v epoch call verdict
+IsAnswered v (Applying epoch lease call verdict ends a) = (a ≡ apply_answer v epoch lease call verdict) × (ends ≡ apply_ends v lease)
+IsAnswered v (Sweeping party era ends a) = (a ≡ sweep_answer v party era) × (ends ≡ sweep_ends v party)
 IsAnswered v (Beginning here dest a) = a ≡ begin_answer v here dest
 IsAnswered v (Freezing a) = a ≡ freeze_answer v
 IsAnswered v (Imaging a) = a ≡ image_answer v
 IsAnswered v (Committing number a) = a ≡ commit_answer v number
-IsAnswered v (Abandoning a) = a ≡ abandon_answer v
-IsAnswered v (Accepting offer a) = a ≡ accept_answer v offer.number
-IsAnswered v (Installing number a) = a ≡ install_answer v number
+IsAnswered v (Abandoning ends a) = (a ≡ abandon_answer v) × (ends ≡ abandon_ends v)
+IsAnswered v (Accepting offer passes a) = a ≡ accept_answer v offer.number
+IsAnswered v (Installing number ends a) = (a ≡ install_answer v number) × (ends ≡ install_ends v)
 IsAnswered v (Withdrawing number a) = a ≡ withdraw_answer v number
 
 abbrev pub is_out : ℕ → List ℕ → Bool
@@ -110,13 +131,13 @@ is_out epoch passes = list_any (λ e. e == epoch) passes
 -- over, or given up, reaches its destination. A server begins a move in its own name, and calls are made with passes that
 -- are out.
 abbrev pub IsDelivered : (ℕ → Move) → List ℕ → ℕ → SlotStep → Type 0
-IsDelivered moves passes s (Accepting offer a) = ((moves offer.number).offer ≡ Some offer) × ((moves offer.number).dest ≡ s)
+IsDelivered moves passes s (Accepting offer leases a) = ((moves offer.number).offer ≡ Some offer) × ((moves offer.number).dest ≡ s)
 IsDelivered moves passes s (Committing number a) = ((moves number).prepared ≡ true) × ((moves number).source ≡ s)
-IsDelivered moves passes s (Installing number a) = (is_handed (moves number).fate ≡ true) × ((moves number).dest ≡ s)
+IsDelivered moves passes s (Installing number ends a) = (is_handed (moves number).fate ≡ true) × ((moves number).dest ≡ s)
 IsDelivered moves passes s (Withdrawing number a) = ((moves number).fate ≡ GivenUp) × ((moves number).dest ≡ s)
 IsDelivered moves passes s (Beginning here dest a) = here ≡ s
 IsDelivered moves passes s (Leaving epoch) = is_out epoch passes ≡ true
-IsDelivered moves passes s (Applying epoch call verdict a) = is_out epoch passes ≡ true
+IsDelivered moves passes s (Applying epoch lease call verdict ends a) = is_out epoch passes ≡ true
 IsDelivered moves passes s _ = Unit {0}
 
 pub record MayCome (home : Home) (earlier : List Moment) (x : Moment) : Type 0 where

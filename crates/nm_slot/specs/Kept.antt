@@ -1,5 +1,6 @@
 -- What a slot keeps, and what contracts see of it.
-use Rattle.std.specs.Prelude.{◌≡◌, ◌≤◌, ◌<◌, ◌^◌, ◌+◌, ◌⊎◌, ℕ, Bool, true, false, List, [], Option, Some, None, length, option_map}
+use Rattle.std.specs.Prelude.{◌≡◌, ◌≤◌, ◌<◌, ◌^◌, ◌+◌, ◌-◌, ◌⊎◌, ℕ, Bool, true, false, List, [], Option, Some, None, length, option_map}
+use Rattle.nm_roll.specs.declared.answers.LeasePass.{LeasePass}
 use Rattle.nm_rules.specs.Parties.{Party}
 use Rattle.nm_rules.specs.Answer.{answer_to}
 use Rattle.nm_rules.specs.Holders.{holders}
@@ -10,18 +11,23 @@ use Rattle.nm_rules.specs.declared.calls.Event.TheVariants.{Asked}
 use Rattle.nm_rules.specs.declared.calls.Reply.{Reply}
 use Rattle.nm_rules.specs.declared.calls.Verdict.{Verdict}
 use Rattle.nm_state.specs.State.{StateNow}
+use Rattle.nm_slot.specs.declared.answers.Abandon.{Abandon}
+use Rattle.nm_slot.specs.declared.answers.Abandon.TheVariants as abandon
 use Rattle.nm_slot.specs.declared.answers.Answer.{Answer}
 use Rattle.nm_slot.specs.declared.answers.Answer.TheVariants as answer
 use Rattle.nm_slot.specs.declared.answers.Begin.{Begin}
 use Rattle.nm_slot.specs.declared.answers.Begin.TheVariants as begin
+use Rattle.nm_slot.specs.declared.answers.Swept.{Swept}
+use Rattle.nm_slot.specs.declared.answers.Swept.TheVariants as sweep
 use Rattle.nm_slot.specs.declared.image.Image.{Image}
 use Rattle.nm_slot.specs.declared.stage.Doing.{Doing as KeptDoing}
 use Rattle.nm_slot.specs.declared.stage.Doing.TheVariants as kept_doing
 use Rattle.nm_slot.specs.declared.stage.Stage.{Stage as KeptStage}
 use Rattle.nm_slot.specs.declared.stage.Stage.TheVariants as kept_stage
 use Rattle.nm_slot.specs.Images.{offer_of, MayBeOffered}
-use Rattle.nm_slot.specs.Answers.{is_offer_of, committed, committed_away, applied}
-use Rattle.nm_slot.specs.Changes.{dest_at, slot_after}
+use Rattle.nm_slot.specs.Answers.{is_offer_of, committed, committed_away, applied, called, done_after, has_here, ends_before}
+use Rattle.nm_slot.specs.Changes.{dest_at, slot_after, stage_called, stage_ended}
+use Rattle.nm_slot.specs.Eras.{noted_lease}
 use Rattle.nm_slot.specs.SlotNow.{Doing, Stage, Offer, Own, SlotView, SlotNow, HandedOver, nothing_yet, phase_of}
 use Rattle.nm_slot.specs.SlotNow.SlotStep.{Applying}
 use Rattle.nm_slot.specs.SlotNow.HandedOver.{Committed, Again, Dead}
@@ -81,6 +87,16 @@ pub record IsNumbered (its_epoch : ℕ) (doing : KeptDoing) : Type 0 where
   pub number : number_of doing ≤ 2 ^ 63
   pub epoch : epoch_after its_epoch doing ≤ 2 ^ 63
 
+-- how many entries go with a move that is under way
+abbrev pub count_doing : KeptDoing → ℕ → ℕ
+count_doing kept_doing.Serves count = 0
+count_doing (kept_doing.Closes dest number) count = count
+count_doing (kept_doing.Froze dest number) count = count
+
+abbrev pub count_moving : KeptStage → ℕ → ℕ
+count_moving (kept_stage.Away held) count = 0
+count_moving (kept_stage.Here doing state) count = count_doing doing count
+
 abbrev pub StageFacts : (fs its_room epoch : ℕ) → KeptStage → Type 0
 StageFacts fs its_room epoch (kept_stage.Away held) = AreHeldWell fs its_room held × (epoch ≤ 2 ^ 63)
 StageFacts fs its_room epoch (kept_stage.Here doing state) = (state.spent ≡ false → IsReady fs its_room state) × IsNumbered epoch doing
@@ -91,9 +107,13 @@ pub record IsStaged (fs its_room epoch : ℕ) (stage : KeptStage) : Type 0 where
 -- What is true of every slot.
 pub record IsKept (fs epoch its_count its_passes its_room : ℕ) (list : List Party) (its_stage : KeptStage) : Type 0 where
   pub stage : IsStaged fs its_room epoch its_stage
-  pub count : its_count ≤ 2 ^ 63
+  pub count : count_moving its_stage its_count ≤ 2 ^ 63
   pub passes : its_passes ≤ 2 ^ 63
   pub empty : list ≡ []
+
+-- There is room for the eras of the leases that came with an offer.
+pub record HasRoom (eras brought room : ℕ) : Type 0 where
+  pub fits : eras + brought ≤ room
 
 -- What a call that takes an offer gets, and what it leaves.
 pub record TookIt (number : ℕ) (old : KeptStage) (taken : Option Image) (new : KeptStage) : Type 0 where
@@ -134,6 +154,24 @@ abbrev pub rows_of : KeptStage → ℕ
 rows_of (kept_stage.Away held) = 0
 rows_of (kept_stage.Here doing state) = rows_in state.seen
 
+-- where a move is given up, all entries went with it
+abbrev pub IsCounted : Abandon → (ℕ → ℕ) → Type 0
+IsCounted (abandon.Back number) moving = (count : ℕ) → moving count ≡ count
+IsCounted abandon.Late moving = Unit {0}
+IsCounted abandon.Idle moving = Unit {0}
+
+abbrev pub is_serving : Stage → Bool
+is_serving Away = false
+is_serving (Here Serves state) = true
+is_serving (Here (Closes dest number) state) = false
+is_serving (Here (Froze dest number) state) = false
+
+-- where a move is given up, the state is served
+abbrev pub IsServedAfter : Abandon → Stage → Type 0
+IsServedAfter (abandon.Back number) stage = is_serving stage ≡ true
+IsServedAfter abandon.Late stage = Unit {0}
+IsServedAfter abandon.Idle stage = Unit {0}
+
 abbrev pub is_here : KeptStage → Bool
 is_here (kept_stage.Away held) = false
 is_here (kept_stage.Here doing state) = true
@@ -168,19 +206,34 @@ is_staged Away = false
 is_staged (Here doing state) = true
 
 -- A call goes on to the state that is here.
-abbrev pub Goes : ℕ → Stage → Own → Type 0
-Goes epoch Away own = ⊥
-Goes epoch (Here doing state) own = ((call : Call) (verdict : Verdict)
-    → applied epoch call verdict (Here doing state) own ≡ answer.Done (own.count + 1) (answer_to state (Asked call verdict))) × (own.count < 2 ^ 63)
+abbrev pub Goes : ℕ → Option LeasePass → Stage → Own → Type 0
+Goes epoch lease Away own = ⊥
+Goes epoch lease (Here doing state) own = ((call : Call) (verdict : Verdict)
+    → applied epoch lease call verdict (Here doing state) own ≡ done_after (ends_before lease (Here doing state) own.eras) call verdict state own)
+    × (own.count < 2 ^ 63 - 2 ^ 17)
 
 -- What stops a call is its answer, and changes nothing.
-pub record IsStopped (epoch : ℕ) (stage : Stage) (own : Own) (a : Answer) : Type 0 where
-  pub answer : (call : Call) (verdict : Verdict) → applied epoch call verdict stage own ≡ a
-  pub same : (v : SlotView) (at : ℕ) (call : Call) (verdict : Verdict) → slot_after v (Applying at call verdict a) ≡ v
+pub record IsStopped (epoch : ℕ) (lease : Option LeasePass) (stage : Stage) (own : Own) (a : Answer) : Type 0 where
+  pub answer : (call : Call) (verdict : Verdict) → applied epoch lease call verdict stage own ≡ a
+  pub same : (v : SlotView) (at : ℕ) (call : Call) (verdict : Verdict) (ends : List Party) → slot_after v (Applying at lease call verdict ends a) ≡ v
 
-abbrev pub Stops : ℕ → Stage → Own → Option Answer → Type 0
-Stops epoch stage own (Some a) = IsStopped epoch stage own a
-Stops epoch stage own None = Goes epoch stage own
+-- what stops a call while calls are taken
+abbrev pub IsStop : ℕ → Option LeasePass → Own → Option Answer → Type 0
+IsStop epoch lease own (Some a) = ((call : Call) (verdict : Verdict) (state : Seen) (ends : List Party) → called epoch lease call verdict state ends own ≡ a)
+    × ((v : SlotView) (at : ℕ) (call : Call) (verdict : Verdict) (ends : List Party) → slot_after v (Applying at lease call verdict ends a) ≡ v)
+IsStop epoch lease own None = ((call : Call) (verdict : Verdict) (state : Seen) (ends : List Party)
+    → called epoch lease call verdict state ends own ≡ done_after ends call verdict state own) × (own.count < 2 ^ 63 - 2 ^ 17)
+
+-- what a call leaves that was carried out with that reply
+abbrev pub called_view : SlotView → Option LeasePass → Call → Verdict → Reply → SlotView
+called_view v lease call verdict reply = record v {
+  stage = stage_called (Asked call verdict) reply (stage_ended (ends_before lease v.stage v.own.eras) v.stage);
+  own = record v.own { count = v.own.count + length (ends_before lease v.stage v.own.eras) + 1; eras = noted_lease lease v.own.eras };
+}
+
+abbrev pub Stops : ℕ → Option LeasePass → Stage → Own → Option Answer → Type 0
+Stops epoch lease stage own (Some a) = IsStopped epoch lease stage own a
+Stops epoch lease stage own None = Goes epoch lease stage own
 
 -- After want of memory a slot is as it was, or its state was spent in this call, and it remembers and does what it did.
 pub record IsSpentBy (old new : SlotNow) : Type 0 where
@@ -191,10 +244,17 @@ pub record IsSpentBy (old new : SlotNow) : Type 0 where
 abbrev pub IsKeptOrSpent : SlotNow → SlotNow → Type 0
 IsKeptOrSpent old new = (new ≡ old) ⊎ IsSpentBy old new
 
+-- Where rows end there is room for that.
+abbrev pub IsRoomy : Swept → ℕ → Type 0
+IsRoomy sweep.Ended count = count < 2 ^ 63 - 2 ^ 17
+IsRoomy sweep.Nothing count = Unit {0}
+IsRoomy sweep.PutOff count = Unit {0}
+IsRoomy sweep.Last count = Unit {0}
+
 -- What begins a move has a number, and the epoch a successor.
-abbrev pub MayBegin : ℕ → Begin → Type 0
-MayBegin epoch (begin.Begun number) = (number ≤ 2 ^ 63) × (epoch < 2 ^ 63)
-MayBegin epoch _ = Unit {0}
+abbrev pub MayBegin : (epoch count : ℕ) → Begin → Type 0
+MayBegin epoch count (begin.Begun number) = (number ≤ 2 ^ 63) × (epoch < 2 ^ 63) × (count ≤ 2 ^ 63)
+MayBegin epoch count _ = Unit {0}
 
 -- what is handed over is gone
 abbrev pub spent_after : HandedOver → Bool → Bool

@@ -28,7 +28,7 @@ pub record MayMoveTo (home : Home) (h : List Moment) (dest : ℕ) : Type 0 where
 -- Answers that never come: no call strays from its epoch, no offer meets the file system itself, and none that was
 -- handed over is missing.
 abbrev pub NeverComes : SlotStep → Type 0
-NeverComes (Applying epoch call verdict (answer.Strayed pass slot)) = ⊥
-NeverComes (Accepting offer accept.Live) = ⊥
-NeverComes (Installing number install.Absent) = ⊥
+NeverComes (Applying epoch lease call verdict ends (answer.Strayed pass slot)) = ⊥
+NeverComes (Accepting offer passes accept.Live) = ⊥
+NeverComes (Installing number ends install.Absent) = ⊥
 NeverComes _ = Unit {0}

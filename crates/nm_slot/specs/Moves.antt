@@ -7,7 +7,7 @@ use Rattle.nm_slot.specs.declared.answers.Install.TheVariants as install
 use Rattle.nm_slot.specs.Phases.{Moment}
 use Rattle.nm_slot.specs.SlotNow.{Offer, SlotStep}
 use Rattle.nm_slot.specs.SlotNow.HandedOver.{Committed, Again}
-use Rattle.nm_slot.specs.SlotNow.SlotStep.{Entering, Leaving, Applying, Beginning, Freezing, Imaging, Committing, Abandoning, Accepting, Installing, Withdrawing}
+use Rattle.nm_slot.specs.SlotNow.SlotStep.{Entering, Leaving, Applying, Sweeping, Beginning, Freezing, Imaging, Committing, Abandoning, Accepting, Installing, Withdrawing}
 
 -- How far a move has come.
 pub data Fate : Type 0 where
@@ -36,10 +36,10 @@ abbrev pub move_after : ℕ → ℕ → SlotStep → Move → Move
 move_after number server (Beginning here dest (begin.Begun its)) move =
     of_move number its (record { source = server; dest = dest; offer = None; prepared = false; fate = UnderWay }) move
 move_after number server (Imaging (Some offer)) move = of_move number offer.number (record move { offer = Some offer }) move
-move_after number server (Accepting offer accept.Held) move = of_move number offer.number (record move { prepared = true }) move
+move_after number server (Accepting offer passes accept.Held) move = of_move number offer.number (record move { prepared = true }) move
 move_after number server (Committing its (Committed parties)) move = of_move number its (record move { fate = Handed }) move
-move_after number server (Abandoning (abandon.Back its)) move = of_move number its (record move { fate = GivenUp }) move
-move_after number server (Installing its install.Now) move = of_move number its (record move { fate = Done }) move
+move_after number server (Abandoning ends (abandon.Back its)) move = of_move number its (record move { fate = GivenUp }) move
+move_after number server (Installing its ends install.Now) move = of_move number its (record move { fate = Done }) move
 move_after number server _ move = move
 
 -- the move of that number, after the steps so far, the newest first

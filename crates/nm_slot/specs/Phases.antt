@@ -9,7 +9,7 @@ use Rattle.nm_slot.specs.SlotNow.{Doing, Stage, SlotStep}
 use Rattle.nm_slot.specs.SlotNow.Doing.{Serves, Closes, Froze}
 use Rattle.nm_slot.specs.SlotNow.Stage.{Away, Here}
 use Rattle.nm_slot.specs.SlotNow.HandedOver.{Committed}
-use Rattle.nm_slot.specs.SlotNow.SlotStep.{Entering, Leaving, Applying, Beginning, Freezing, Imaging, Committing, Abandoning, Accepting, Installing, Withdrawing}
+use Rattle.nm_slot.specs.SlotNow.SlotStep.{Entering, Leaving, Applying, Sweeping, Beginning, Freezing, Imaging, Committing, Abandoning, Accepting, Installing, Withdrawing}
 
 -- One step, with its answer, at a server.
 pub record Moment : Type 0 where
@@ -38,14 +38,14 @@ source_of (Passing source dest number) = source
 abbrev pub after_at_source : Phase → SlotStep → Phase
 after_at_source (At server) (Beginning here dest (begin.Begun number)) = Closing server dest number
 after_at_source (Closing source dest number) (Freezing (freeze.Frozen its)) = Frozen source dest number
-after_at_source (Closing source dest number) (Abandoning (abandon.Back its)) = At source
+after_at_source (Closing source dest number) (Abandoning ends (abandon.Back its)) = At source
 after_at_source (Frozen source dest number) (Committing its (Committed parties)) = Passing source dest number
-after_at_source (Frozen source dest number) (Abandoning (abandon.Back its)) = At source
+after_at_source (Frozen source dest number) (Abandoning ends (abandon.Back its)) = At source
 after_at_source phase _ = phase
 
 -- What a step at another server makes of it: the destination installs what was handed over.
 abbrev pub after_elsewhere : Phase → ℕ → SlotStep → Phase
-after_elsewhere (Passing source dest number) server (Installing its install.Now) =
+after_elsewhere (Passing source dest number) server (Installing its ends install.Now) =
     if (server == dest) && (its == number) then At dest else Passing source dest number
 after_elsewhere phase server _ = phase
 

@@ -1,5 +1,6 @@
 -- A file system at one server: what the server has of it.
-use Rattle.std.specs.Prelude.{ℕ, Bool, List, Option, Some, None}
+use Rattle.std.specs.Prelude.{ℕ, Bool, List, [], Option, Some, None}
+use Rattle.nm_roll.specs.declared.answers.LeasePass.{LeasePass}
 use Rattle.nm_rules.specs.Parties.{Party}
 use Rattle.nm_rules.specs.Seen.{Seen}
 use Rattle.nm_rules.specs.declared.calls.Call.{Call}
@@ -13,6 +14,8 @@ use Rattle.nm_slot.specs.declared.answers.Commit.TheVariants as commit
 use Rattle.nm_slot.specs.declared.answers.Enter.{Enter}
 use Rattle.nm_slot.specs.declared.answers.Freeze.{Freeze}
 use Rattle.nm_slot.specs.declared.answers.Install.{Install}
+use Rattle.nm_slot.specs.declared.answers.Swept.{Swept}
+use Rattle.nm_slot.specs.declared.eras.EraRow.{EraRow}
 use Rattle.nm_slot.specs.declared.phase.Phase.{Phase}
 use Rattle.nm_slot.specs.declared.phase.Phase.TheVariants as phase
 
@@ -44,8 +47,9 @@ pub record Left : Type 0 where
 
 -- What a server remembers of a file system by its own steps alone.
 pub record Own : Type 0 where
-  -- the offer that it holds
+  -- the offer that it holds, and the leases that came with it
   pub held : Option Offer
+  pub brought : List LeasePass
   -- its latest commit
   pub left : Option Left
   -- the greatest move number that it began, accepted or was told to withdraw, and the greatest that it installed
@@ -57,6 +61,8 @@ pub record Own : Type 0 where
   pub count : ℕ
   -- how many passes are out
   pub out : ℕ
+  -- in which eras it has seen instances
+  pub eras : List EraRow
 
 pub record SlotView : Type 0 where
   pub fs : ℕ
@@ -71,7 +77,7 @@ pub record SlotNow : Type 0 where
 
 -- a server that had no part in a file system yet
 abbrev pub nothing_yet : Own
-nothing_yet = record { held = None; left = None; known = 0; installed = 0; epoch = 0; count = 0; out = 0 }
+nothing_yet = record { held = None; brought = []; left = None; known = 0; installed = 0; epoch = 0; count = 0; out = 0; eras = [] }
 
 -- Without its state the file system is on its way here, or it went from here, or it was never here.
 abbrev pub phase_away : Option Offer → Option Left → ℕ → Phase
@@ -103,20 +109,24 @@ handed_over (commit.Committed instances) = Committed instances.items
 handed_over commit.Again = Again
 handed_over (commit.Dead current) = Dead current
 
--- One call on a file system at a server, with its answer.
+-- One call on a file system at a server, with its answer. Where it can end the rows of instances, those whose rows it would end
+-- stand before the answer, in order.
 pub data SlotStep : Type 0 where
   Entering : Enter → SlotStep
   -- a pass of that epoch comes back
   Leaving : (epoch : ℕ) → SlotStep
-  -- a call with a pass of that epoch
-  Applying : (epoch : ℕ) → Call → Verdict → Answer → SlotStep
+  -- a call with a pass of that epoch, in the name of a lease or of none
+  Applying : (epoch : ℕ) → Option LeasePass → Call → Verdict → List Party → Answer → SlotStep
+  -- an era of an instance has ended
+  Sweeping : Party → (era : ℕ) → List Party → Swept → SlotStep
   -- at that server, to that one
   Beginning : (here dest : ℕ) → Begin → SlotStep
   Freezing : Freeze → SlotStep
   -- the offer that is made of a frozen state
   Imaging : Option Offer → SlotStep
   Committing : (number : ℕ) → HandedOver → SlotStep
-  Abandoning : Abandon → SlotStep
-  Accepting : Offer → Accept → SlotStep
-  Installing : (number : ℕ) → Install → SlotStep
+  Abandoning : List Party → Abandon → SlotStep
+  -- an offer, and the leases of its holders at this server
+  Accepting : Offer → List LeasePass → Accept → SlotStep
+  Installing : (number : ℕ) → List Party → Install → SlotStep
   Withdrawing : (number : ℕ) → Bool → SlotStep

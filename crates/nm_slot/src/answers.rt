@@ -25,7 +25,8 @@ pub enum Answer {
         place: u64,
         reply: Reply,
     },
-    /// The caller's instance has ended in that era.
+    /// The lease is of an earlier era of its instance than that one, which is the latest that was seen here, or of that one, and it
+    /// has ended.
     Ended {
         era: Era,
     },
@@ -38,6 +39,19 @@ pub enum Answer {
     Last {
         count: u64,
     },
+}
+
+/// What came of the end of an instance's era.
+#[derive(Clone, Copy, Debug, PartialEq, Eq)]
+pub enum Swept {
+    /// What the instance had here has ended.
+    Ended,
+    /// There was nothing to end.
+    Nothing,
+    /// What it has in the state that is frozen or on offer here ends where that is served here again.
+    PutOff,
+    /// There is no room for a further entry.
+    Last,
 }
 
 /// What came of beginning a move.

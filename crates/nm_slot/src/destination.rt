@@ -1,21 +1,50 @@
 //! The destination of a move.
-ghost use Rattle.std.specs.Prelude.{◌≡◌, max, IfOk, OnOk, OnErr, Some, false};
-ghost use Rattle.nm_slot.specs.Answers.{accept_answer, install_answer, withdraw_answer, is_offer_of};
+ghost use Rattle.std.specs.Prelude.{◌≡◌, ◌≤◌, [], max, IfOk, OnOk, OnErr, Some, false};
+ghost use Rattle.std.specs.Vec.{vec_capacity};
+ghost use Rattle.nm_slot.specs.Answers.{accept_answer, install_answer, install_ends, withdraw_answer, is_offer_of};
+ghost use Rattle.nm_slot.specs.Eras.{ends_brought, after_ends};
+ghost use Rattle.nm_slot.specs.Kept.{rows_in};
 ghost use Rattle.nm_slot.specs.Changes.{slot_after};
 ghost use Rattle.nm_slot.specs.Images.{offer_of, MayBeOffered};
 ghost use Rattle.nm_slot.specs.SlotNow.Stage.{Away};
 ghost use Rattle.nm_slot.specs.SlotNow.SlotStep.{Accepting, Installing, Withdrawing};
 ghost use Rattle.nm_slot.specs.declared.answers.Accept.TheVariants.{Held as HeldNow};
 
-use crate::stage::{Doing, Stage};
+use crate::eras::{EraRow, keep_swept, note_all};
+use crate::stage::{Doing, Stage, end_all, list_holders};
 use crate::{Accept, Image, Install, Slot};
-use nm_rules::{Memory, MoveNum};
+use nm_roll::LeasePass;
+use nm_rules::{Instance, Memory, MoveNum};
+use nm_state::FsState;
+use std::mem;
 
 // The greater one.
 fn greater(a: MoveNum, b: MoveNum) -> MoveNum
     ensures { result ≡ max a b }
 {
     MoveNum::new(a.number().max(b.number()))
+}
+
+// Ends what those have in a state of whom the era of their lease, or a later one, has ended here. It lists them, in a list that has
+// room for all holders.
+#[tactic(auto, unfolding(crate::specs::Eras::ends_brought))]
+fn end_brought(
+    state: &mut FsState,
+    room: Vec<Instance>,
+    passes: &[LeasePass],
+    eras: &[EraRow],
+) -> Vec<Instance>
+    requires empty { room.items ≡ [] }
+    requires fits { rows_in state.old.seen ≤ vec_capacity room }
+    ensures ends { result.items ≡ ends_brought passes.now eras.now state.old.seen }
+    ensures seen { state.new.seen ≡ after_ends (ends_brought passes.now eras.now state.old.seen) state.old.seen }
+    ensures spent { state.new.spent ≡ state.old.spent }
+    ensures capacity { vec_capacity room ≤ vec_capacity result }
+{
+    let mut due = list_holders(state, room);
+    keep_swept(&mut due, passes, eras);
+    end_all(state, &due);
+    due
 }
 
 impl Image {
@@ -65,14 +94,15 @@ impl Slot {
         }
     }
 
-    // Holds an offer, in the place of one that was held.
-    fn hold(&mut self, image: &Image) -> Result<(), Memory>
+    // Holds an offer with the leases of its holders, in the place of one that was held.
+    fn hold(&mut self, image: &Image, passes: &[LeasePass]) -> Result<(), Memory>
         requires offered { MayBeOffered self.old.view.fs image.now }
         requires away { self.old.view.stage ≡ Away }
         ensures ok { OnOk result (self.new ≡ record self.old {
           view = record self.old.view {
             own = record self.old.view.own {
               held = Some (offer_of image.now);
+              brought = passes.now;
               known = image.now.number;
             };
           };
@@ -80,19 +110,23 @@ impl Slot {
         ensures err { OnErr result (self.new ≡ self.old) }
     {
         let offer = image.copy()?;
+        let brought = Vec::from_slice(self.alloc, passes)?;
         self.room.reserve(image.state.rows())?;
+        self.eras.reserve(brought.len())?;
         self.stage = Stage::Away(Some(offer));
+        self.brought = brought;
         self.known = image.number;
         Ok(())
     }
 
     /// Holds an offer, a copy of it, where no move of its number or a greater one is known here and the file system itself
-    /// isn't here. Memory is wanted only for the copy.
+    /// isn't here. With it come the leases that this server's roll reserved for its holders; a holder of several counts with the
+    /// latest era among them, one of none with era 0. Memory is wanted only for the copy.
     #[tactic(auto, unfolding(crate::specs::Answers::accept_answer, crate::specs::Changes::slot_after))]
-    pub fn accept(&mut self, image: &Image) -> Result<Accept, Memory>
+    pub fn accept(&mut self, image: &Image, passes: &[LeasePass]) -> Result<Accept, Memory>
         requires offered { MayBeOffered self.old.view.fs image.now }
         ensures answer { IfOk result (λ a. a ≡ accept_answer self.old.view image.now.number) }
-        ensures after { IfOk result (λ a. self.new.view ≡ slot_after self.old.view (Accepting (offer_of image.now) a)) }
+        ensures after { IfOk result (λ a. self.new.view ≡ slot_after self.old.view (Accepting (offer_of image.now) passes.now a)) }
         ensures spent { self.new.spent ≡ self.old.spent }
         ensures err { OnErr result (self.new ≡ self.old) }
         ensures needed { OnErr result ((accept_answer self.old.view image.now.number ≡ HeldNow) × (is_offer_of image.now.number self.old.view.own.held ≡ false)) }
@@ -101,7 +135,7 @@ impl Slot {
         match answer {
             Accept::Held => {
                 if !self.holds(image.number) {
-                    self.hold(image)?;
+                    self.hold(image, passes)?;
                 }
             }
             Accept::Old { .. } | Accept::Live => {}
@@ -109,21 +143,29 @@ impl Slot {
         Ok(answer)
     }
 
-    /// Installs an offer that is held: from now on the file system is served here. It takes no memory.
-    #[tactic(auto, unfolding(crate::specs::Answers::install_answer, crate::specs::Changes::slot_after))]
+    /// Installs an offer that is held: from now on the file system is served here. What those had in it ends at once of whom the era of
+    /// their lease, or a later one, has ended here. It takes no memory.
+    #[tactic(auto, unfolding(crate::specs::Answers::install_answer, crate::specs::Answers::install_ends, crate::specs::Changes::slot_after))]
     pub fn install(&mut self, number: MoveNum) -> Install
         ensures answer { result ≡ install_answer self.old.view number }
-        ensures after { self.new.view ≡ slot_after self.old.view (Installing number result) }
+        ensures after { self.new.view ≡ slot_after self.old.view (Installing number (install_ends self.old.view) result) }
         ensures spent { self.new.spent ≡ self.old.spent }
     {
         match self.stage.take_offer(number) {
             Some(image) => {
+                let mut state = image.state;
+                let room = mem::replace(&mut self.room, Vec::new(self.alloc));
+                let mut ended = end_brought(&mut state, room, &self.brought, &self.eras);
+                note_all(&mut self.eras, &self.brought);
+                self.brought.clear();
                 self.installed = number;
                 self.epoch = image.epoch;
-                self.count = image.count;
+                self.count = image.count + ended.len() as u64;
+                ended.clear();
+                self.room = ended;
                 self.stage = Stage::Here {
                     doing: Doing::Serves,
-                    state: image.state,
+                    state,
                 };
                 Install::Now
             }
@@ -147,6 +189,10 @@ impl Slot {
     {
         let offer = self.stage.take_offer(number);
         self.known = greater(self.known, number);
-        offer.is_some()
+        if offer.is_none() {
+            return false;
+        }
+        self.brought.clear();
+        true
     }
 }

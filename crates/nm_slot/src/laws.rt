@@ -3,7 +3,8 @@
 ghost use Rattle.std.specs.Prelude.{◌≡◌, ◌≢◌, ◌↔◌, ℕ, true, false, List, ◌∷◌};
 ghost use Rattle.nm_rules.specs.Answer.{IsLegal};
 ghost use Rattle.nm_rules.specs.Holders.{holders};
-ghost use Rattle.nm_slot.specs.Answers.{is_at_end};
+ghost use Rattle.nm_rules.specs.Parties.{Party};
+ghost use Rattle.nm_slot.specs.Answers.{is_at_end, install_ends};
 ghost use Rattle.nm_slot.specs.SlotNow.{phase_of, SlotStep};
 ghost use Rattle.nm_slot.specs.SlotNow.HandedOver.{Committed};
 ghost use Rattle.nm_slot.specs.SlotNow.SlotStep.{Entering, Committing, Installing};
@@ -44,8 +45,8 @@ pub fn one_server_serves()
 
 /// Nothing is lost: what is installed is the state of all entries so far, and these are those of the freeze.
 pub fn nothing_is_lost()
-    ensures { (home : Home) (h : List Moment) (dest number : ℕ)
-        → IsHistory home (record { server = dest; step = Installing number Now } ∷ h) → IsWhole home h dest number }
+    ensures { (home : Home) (h : List Moment) (dest number : ℕ) (ends : List Party)
+        → IsHistory home (record { server = dest; step = Installing number ends Now } ∷ h) → IsWhole home h dest number }
 {}
 
 /// Whatever servers carried the entries out, each reply is the answer after the entries before it.
@@ -73,7 +74,7 @@ pub fn a_move_gets_on()
         → IsHistory home (record { server = source; step = Committing number (Committed (holders (tables_now home h))) } ∷ h) }
     ensures installs { (home : Home) (h : List Moment) (source dest number : ℕ) → IsHistory home h
         → phase_now home.first h ≡ Passing source dest number
-        → IsHistory home (record { server = dest; step = Installing number Now } ∷ h) }
+        → IsHistory home (record { server = dest; step = Installing number (install_ends (slot_now home h dest)) Now } ∷ h) }
     ensures gets_there { (home : Home) (h : List Moment) (source dest : ℕ) → IsHistory home h
         → phase_now home.first h ≡ At source → source ≢ dest
         → is_at_end (own_now home.first h source) ≡ false → MayMoveTo home h dest }

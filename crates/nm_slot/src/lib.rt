@@ -5,6 +5,7 @@
 mod answers;
 mod destination;
 mod door;
+mod eras;
 mod image;
 mod laws;
 mod pass;
@@ -12,8 +13,9 @@ mod phase;
 mod slot;
 mod source;
 mod stage;
+mod sweeps;
 
-pub use answers::{Abandon, Accept, Answer, Begin, Commit, Enter, Freeze, Install};
+pub use answers::{Abandon, Accept, Answer, Begin, Commit, Enter, Freeze, Install, Swept};
 pub use image::Image;
 pub use laws::{
     a_move_gets_on, entries_stay_legal, nothing_is_lost, one_holder, one_server_serves,

@@ -5,8 +5,10 @@ ghost use Rattle.nm_slot.specs.Kept.{doing_of, first_slot};
 ghost use Rattle.nm_slot.specs.Shown.{table_answer};
 ghost use Rattle.nm_slot.specs.SlotNow.{phase_of, phase_away, phase_here};
 
+use crate::eras::EraRow;
 use crate::stage::{Doing, Left, Stage};
 use crate::{Image, Phase};
+use nm_roll::LeasePass;
 use nm_rules::{Epoch, FsNum, HeldTable, Instance, Memory, MoveNum};
 use nm_state::FsState;
 use std::alloc::Global;
@@ -27,6 +29,10 @@ pub struct Slot {
     pub(crate) passes: u64,
     /// Nothing, with room for the holders of the state that is here or held.
     pub(crate) room: Vec<Instance>,
+    /// In which eras instances were seen, with room for those that came with the offer.
+    pub(crate) eras: Vec<EraRow>,
+    /// The leases that came with the offer.
+    pub(crate) brought: Vec<LeasePass>,
 }
 
 impl Model for Slot {
@@ -34,8 +40,8 @@ impl Model for Slot {
 
     ghost Value = { SlotNow };
 
-    ghost use Rattle.std.specs.Prelude.{vec_capacity};
-    ghost use Rattle.nm_slot.specs.Kept.{stage_of, held_of, spent_of, IsKept};
+    ghost use Rattle.std.specs.Prelude.{length, vec_capacity};
+    ghost use Rattle.nm_slot.specs.Kept.{stage_of, held_of, spent_of, IsKept, HasRoom};
 
     ghost view = { λ s. record {
       view = record {
@@ -43,18 +49,21 @@ impl Model for Slot {
         stage = stage_of s.stage;
         own = record {
           held = held_of s.stage;
+          brought = s.brought.items;
           left = s.left;
           known = s.known;
           installed = s.installed;
           epoch = s.epoch;
           count = s.count;
           out = s.passes;
+          eras = s.eras.items;
         };
       };
       spent = spent_of s.stage;
     } };
 
-    ghost invariant = { λ s. IsKept s.fs s.epoch s.count s.passes (vec_capacity s.room) s.room.items s.stage };
+    ghost invariant = { λ s. IsKept s.fs s.epoch s.count s.passes (vec_capacity s.room) s.room.items s.stage
+        × HasRoom (length s.eras.items) (length s.brought.items) (vec_capacity s.eras) };
 }
 
 // What a server does that has no state.
@@ -116,6 +125,8 @@ impl Slot {
             count: 0,
             passes: 0,
             room,
+            eras: Vec::new(alloc),
+            brought: Vec::new(alloc),
         })
     }
 

@@ -1,9 +1,9 @@
 //! The source of a move.
-ghost use Rattle.std.specs.Prelude.{◌≡◌, ◌≤◌, ◌<◌, ◌^◌, false, None, Some, IfOk, IfSome, IsSome, OnOk, OnErr, option_map};
-ghost use Rattle.nm_slot.specs.Answers.{begin_answer, freeze_answer, image_answer, commit_answer, abandon_answer, is_at_end, committed_away, offered};
-ghost use Rattle.nm_slot.specs.Changes.{slot_after};
+ghost use Rattle.std.specs.Prelude.{◌≡◌, ◌≤◌, ◌<◌, ◌^◌, ◌+◌, length, true, false, None, Some, IfOk, IfSome, IsSome, OnOk, OnErr, option_map};
+ghost use Rattle.nm_slot.specs.Answers.{begin_answer, freeze_answer, image_answer, commit_answer, abandon_answer, abandon_ends, is_at_end, committed_away, offered};
+ghost use Rattle.nm_slot.specs.Changes.{slot_after, stage_ended};
 ghost use Rattle.nm_slot.specs.Images.{offer_of, image_of, MayBeOffered};
-ghost use Rattle.nm_slot.specs.Kept.{MayBegin, refused_at, holders_at, spent_after};
+ghost use Rattle.nm_slot.specs.Kept.{MayBegin, is_serving, refused_at, holders_at, spent_after};
 ghost use Rattle.nm_slot.specs.SlotNow.{handed_over};
 ghost use Rattle.nm_slot.specs.SlotNow.Stage.{Away};
 ghost use Rattle.nm_slot.specs.SlotNow.SlotStep.{Beginning, Freezing, Committing, Abandoning};
@@ -22,6 +22,7 @@ impl Slot {
         ensures value { result ≡ is_at_end self.now.view.own }
         ensures known { result ≡ false → self.now.view.own.known < 2 ^ 63 }
         ensures epoch { result ≡ false → self.now.view.own.epoch < 2 ^ 63 }
+        ensures count { result ≡ false → self.now.view.own.count ≤ 2 ^ 63 }
     {
         self.known.number() >= LAST || self.epoch.number() >= LAST || self.count > LAST
     }
@@ -30,7 +31,7 @@ impl Slot {
     #[tactic(auto, unfolding(crate::specs::Answers::begin_answer))]
     fn begun(&self, here: ServerNum, dest: ServerNum) -> Begin
         ensures value { result ≡ begin_answer self.now.view here dest }
-        ensures numbered { MayBegin self.now.view.own.epoch result }
+        ensures numbered { MayBegin self.now.view.own.epoch self.now.view.own.count result }
     {
         match &self.stage {
             Stage::Away(_) => Begin::NotServed,
@@ -174,13 +175,36 @@ impl Slot {
         }
     }
 
-    /// Gives the move up that is under way: the file system is served here again.
-    #[tactic(auto, unfolding(crate::specs::Answers::abandon_answer, crate::specs::Changes::slot_after))]
-    pub fn abandon(&mut self) -> Abandon
-        ensures answer { result ≡ abandon_answer self.old.view }
-        ensures after { self.new.view ≡ slot_after self.old.view (Abandoning result) }
+    // Ends what those have in the state that is here whose era ended while it was frozen.
+    fn end_late(&mut self)
+        requires serving { is_serving self.old.view.stage ≡ true }
+        requires count { self.old.view.own.count ≤ 2 ^ 63 }
+        ensures after { self.old.spent ≡ false → self.new.view ≡ record self.old.view {
+          stage = stage_ended (abandon_ends self.old.view) self.old.view.stage;
+          own = record self.old.view.own { count = self.old.view.own.count + length (abandon_ends self.old.view) };
+        } }
         ensures spent { self.new.spent ≡ self.old.spent }
     {
-        self.stage.abandon(self.left)
+        let room = mem::replace(&mut self.room, Vec::new(self.alloc));
+        let mut due = self.stage.end_late(room, &self.eras);
+        self.count += due.len() as u64;
+        due.clear();
+        self.room = due;
+    }
+
+    /// Gives the move up that is under way: the file system is served here again, and what those had in it ends whose era ended while
+    /// it was frozen. It takes no memory.
+    #[tactic(auto, unfolding(crate::specs::Answers::abandon_answer, crate::specs::Answers::abandon_ends, crate::specs::Changes::slot_after))]
+    pub fn abandon(&mut self) -> Abandon
+        ensures answer { result ≡ abandon_answer self.old.view }
+        ensures after { self.old.spent ≡ false → self.new.view ≡ slot_after self.old.view (Abandoning (abandon_ends self.old.view) result) }
+        ensures spent { self.new.spent ≡ self.old.spent }
+    {
+        let answer = self.stage.abandon(self.left);
+        match answer {
+            Abandon::Back(_) => self.end_late(),
+            Abandon::Late | Abandon::Idle => {}
+        }
+        answer
     }
 }

@@ -48,6 +48,7 @@ fn put(list: &mut Vec<Instance>, instance: &Instance) -> Result<(), Memory>
 fn gather_openers(rows: &[OpenRow], list: &mut Vec<Instance>) -> Result<(), Memory>
     requires { parties_rise list.old.items ≡ true }
     ensures ok { OnOk result (list.new.items ≡ gathered opener_of rows.now list.old.items) }
+    ensures capacity { OnOk result (vec_capacity list.old ≤ vec_capacity list.new) }
     ensures full { OnErr result (vec_capacity list.old < length (gathered opener_of rows.now list.old.items)) }
 {
     // From the last row on, as the definition has it.
@@ -79,6 +80,7 @@ pub fn gather(
 ) -> Result<(), Memory>
     requires { list.old.items ≡ [] }
     ensures ok { OnOk result (list.new.items ≡ gathered opener_of opens.now (gathered known_of owners.now [])) }
+    ensures capacity { OnOk result (vec_capacity list.old ≤ vec_capacity list.new) }
     ensures full { OnErr result (vec_capacity list.old < length (gathered opener_of opens.now (gathered known_of owners.now []))) }
 {
     gather_known(owners, list)?;

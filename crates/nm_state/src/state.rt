@@ -143,6 +143,7 @@ impl FsState {
         requires empty { room.items ≡ [] }
         requires fits { length (holders self.now.seen) ≤ vec_capacity room }
         ensures value { result.items ≡ holders self.now.seen }
+        ensures capacity { vec_capacity room ≤ vec_capacity result }
     {
         let mut list = room;
         match gather(self.tables.opens(), self.tables.owners(), &mut list) {
