@@ -329,19 +329,26 @@ fn in_the_way(alloc: Global) -> Result<Denied, Fail> {
 
 // Whether the steps up to there tell that value last.
 fn tells(alloc: Global, steps: usize, value: &ReplyValue) -> Result<bool, Fail> {
-    last_tells(alloc, TOLD.as_slice().split_at(steps).0, value)
+    let first = TOLD.as_slice().get(..steps).ok_or("so many steps")?;
+    last_tells(alloc, first, value)
+}
+
+fn tells_lock(alloc: Global, steps: usize, seqid: u32, counter: u64) -> Result<bool, Fail> {
+    tells(alloc, steps, &locked(seqid, counter))
+}
+
+fn tells_unlock(alloc: Global, steps: usize, seqid: u32, counter: u64) -> Result<bool, Fail> {
+    let value = ReplyValue::Unlock(Some(stateid(seqid, counter)));
+    tells(alloc, steps, &value)
 }
 
 #[test]
 fn a_lock_tells_its_stateid(rt: HostRuntime) -> Result<(), Fail> {
     let alloc = rt.alloc();
-    let told = [
-        tells(alloc, 5, &locked(1, 3))?,
-        tells(alloc, 6, &locked(2, 3))?,
-        tells(alloc, 9, &locked(1, 4))?,
-        tells(alloc, 10, &ReplyValue::Unlock(Some(stateid(2, 4))))?,
-    ];
-    assert_eq!(rt; told, [true; 4]);
+    assert!(rt; tells_lock(alloc, 5, 1, 3)?);
+    assert!(rt; tells_lock(alloc, 6, 2, 3)?);
+    assert!(rt; tells_lock(alloc, 9, 1, 4)?);
+    assert!(rt; tells_unlock(alloc, 10, 2, 4)?);
     Ok(())
 }
 

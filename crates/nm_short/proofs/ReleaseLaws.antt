@@ -149,7 +149,9 @@ then_keeps : {A : Type 0} (of : FileNow → A) (f : FileNow) (one : FreedFile) (
     → map of (freed_then one fs all).files ≡ of f ∷ map of fs
 then_keeps of f one fs all first rest = by_test (frees_more one.freed)
   where
-    by_test : (b : Bool) → map of (cond b (record { files = one.file ∷ all.files; freed = all.freed }) (record { files = one.file ∷ fs; freed = one.freed })).files ≡ of f ∷ map of fs
+    by_test : (b : Bool)
+        → map of (cond {A = FreedFiles} b (record { files = one.file ∷ all.files; freed = all.freed }) (record { files = one.file ∷ fs; freed = one.freed })).files
+        ≡ of f ∷ map of fs
     by_test true = ap (λ x. x ∷ map of all.files) first ∙ ap (λ xs. of f ∷ xs) rest
     by_test false = ap (λ x. x ∷ map of fs) first
 
