@@ -24,8 +24,8 @@ asked_by n now s epoch client row act knows reply listed next = elim next [
 ]
 
 ask_is : (n s epoch client : ℕ) (row : ClientRow) (act : Action) (f now : FileTables) (call : Call) (known knows : Known) (reply : Reply) (names listed : List (List ℕ)) (next : Option Call)
-    → reply ≡ reply_of call (apply_answer (slot_in f s) epoch call Pass)
-    → now ≡ stepped f s (Applying epoch call Pass (apply_answer (slot_in f s) epoch call Pass))
+    → reply ≡ reply_of call (apply_answer (slot_in f s) epoch None call Pass)
+    → now ≡ stepped f s (Applying epoch None call Pass [] (apply_answer (slot_in f s) epoch None call Pass))
     → knows ≡ learned client act call reply known → listed ≡ names ++ names_of reply.value → next ≡ goes_on_with client row act call reply.value
     → asked_by n now s epoch client row act knows reply listed next ≡ asks_to (suc n) f s epoch client row act call known names
 unfolding asks_to asked_by
@@ -34,8 +34,8 @@ ask_is n s epoch client row act f now call known knows reply names listed next t
 -- one more request of those that are left
 pub asked_on : (limit i s epoch client : ℕ) (row : ClientRow) (act : Action) (f now : FileTables) (call next : Call) (known knows : Known) (reply : Reply) (names listed : List (List ℕ)) (whole : AskedTo)
     → i < limit
-    → reply ≡ reply_of call (apply_answer (slot_in f s) epoch call Pass)
-    → now ≡ stepped f s (Applying epoch call Pass (apply_answer (slot_in f s) epoch call Pass))
+    → reply ≡ reply_of call (apply_answer (slot_in f s) epoch None call Pass)
+    → now ≡ stepped f s (Applying epoch None call Pass [] (apply_answer (slot_in f s) epoch None call Pass))
     → knows ≡ learned client act call reply known → listed ≡ names ++ names_of reply.value → Some next ≡ goes_on_with client row act call reply.value
     → asks_to (limit - i) f s epoch client row act call known names ≡ whole → asks_to (limit - (i + 1)) now s epoch client row act next knows listed ≡ whole
 unfolding asked_by
@@ -47,8 +47,8 @@ asked_on limit i s epoch client row act f now call next known knows reply names 
 -- the last request
 pub asked_last : (limit i s epoch client : ℕ) (row : ClientRow) (act : Action) (f now : FileTables) (call : Call) (known knows : Known) (reply : Reply) (names listed : List (List ℕ)) (whole : AskedTo)
     → i < limit
-    → reply ≡ reply_of call (apply_answer (slot_in f s) epoch call Pass)
-    → now ≡ stepped f s (Applying epoch call Pass (apply_answer (slot_in f s) epoch call Pass))
+    → reply ≡ reply_of call (apply_answer (slot_in f s) epoch None call Pass)
+    → now ≡ stepped f s (Applying epoch None call Pass [] (apply_answer (slot_in f s) epoch None call Pass))
     → knows ≡ learned client act call reply known → listed ≡ names ++ names_of reply.value → None ≡ goes_on_with client row act call reply.value
     → asks_to (limit - i) f s epoch client row act call known names ≡ whole
     → ◌≡◌ {A = AskedTo} (record { file = now; known = knows; reply = Some reply; names = listed }) whole

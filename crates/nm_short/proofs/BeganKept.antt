@@ -33,10 +33,10 @@ is_under_way (Passing source dest number) = false
 source_same : (k s : ℕ) (step : SlotStep) (move : Move) → is_beginning step ≡ false → (move_after k s step move).source ≡ move.source
 source_same k s (Beginning here dest (begin.Begun its)) move e = cc
 source_same k s (Imaging (Some offer)) move e = by_number offer.number k (λ m. m.source) move.source (record move { offer = Some offer }) move refl refl
-source_same k s (Accepting offer accept.Held) move e = by_number offer.number k (λ m. m.source) move.source (record move { prepared = true }) move refl refl
+source_same k s (Accepting offer leases accept.Held) move e = by_number offer.number k (λ m. m.source) move.source (record move { prepared = true }) move refl refl
 source_same k s (Committing its (Committed parties)) move e = by_number its k (λ m. m.source) move.source (record move { fate = Handed }) move refl refl
-source_same k s (Abandoning (abandon.Back its)) move e = by_number its k (λ m. m.source) move.source (record move { fate = GivenUp }) move refl refl
-source_same k s (Installing its install.Now) move e = by_number its k (λ m. m.source) move.source (record move { fate = Done }) move refl refl
+source_same k s (Abandoning ends (abandon.Back its)) move e = by_number its k (λ m. m.source) move.source (record move { fate = GivenUp }) move refl refl
+source_same k s (Installing its ends install.Now) move e = by_number its k (λ m. m.source) move.source (record move { fate = Done }) move refl refl
 source_same k s _ move e = refl
 
 -- a move that began here began at its source
@@ -48,10 +48,10 @@ there_at_source : (p : Phase) (move move' : ℕ → Move) (step : SlotStep) → 
     → BeganThere p move → BeganThere (after_at_source p step) move'
 there_at_source (At q) move move' step w same there = cc
 there_at_source (Closing q dest number) move move' (Freezing (freeze.Frozen its)) w same there = same number ∙ there
-there_at_source (Closing q dest number) move move' (Abandoning (abandon.Back its)) w same there = tt
+there_at_source (Closing q dest number) move move' (Abandoning ends (abandon.Back its)) w same there = tt
 there_at_source (Closing q dest number) move move' _ w same there = same number ∙ there
 there_at_source (Frozen q dest number) move move' (Committing its (Committed parties)) w same there = tt
-there_at_source (Frozen q dest number) move move' (Abandoning (abandon.Back its)) w same there = tt
+there_at_source (Frozen q dest number) move move' (Abandoning ends (abandon.Back its)) w same there = tt
 there_at_source (Frozen q dest number) move move' _ w same there = same number ∙ there
 there_at_source (Passing q dest number) move move' step w same there = cc
 
@@ -90,7 +90,7 @@ there_under_way fs p own move t s step a w there = by_test (s == source_of p)
     by_test false = there_elsewhere p move (move_next step s move) s step w (under_way_same fs p own move t s step a w) there
 
 there_passing : (q dest number s : ℕ) (move : ℕ → Move) (step : SlotStep) → BeganThere (next (Passing q dest number) s step) move
-there_passing q dest number s move (Installing its install.Now) = by_test (s == q) (s == dest) (its == number)
+there_passing q dest number s move (Installing its ends install.Now) = by_test (s == q) (s == dest) (its == number)
   where
     by_test : (b c d : Bool) → BeganThere (cond b (Passing q dest number) (cond (c && d) (At dest) (Passing q dest number))) move
     by_test true c d = tt

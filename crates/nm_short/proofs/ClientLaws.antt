@@ -9,7 +9,7 @@ use Rattle.nm_script.specs.declared.script.ClientRow.{ClientRow}
 use Rattle.nm_slot.specs.declared.answers.Answer.{Answer}
 use Rattle.nm_slot.specs.declared.answers.Enter.{Enter}
 use Rattle.nm_slot.specs.declared.answers.Enter.TheVariants as enter
-use Rattle.nm_slot.specs.Answers.{enter_answer, apply_answer}
+use Rattle.nm_slot.specs.Answers.{enter_answer, apply_answer, apply_ends}
 use Rattle.nm_slot.specs.Changes.{slot_after}
 use Rattle.nm_slot.specs.History.{passes_now, is_out}
 use Rattle.nm_slot.specs.SlotNow.SlotStep.{Entering, Leaving, Applying}
@@ -113,7 +113,7 @@ knocks_same (suc k) n f t s stands =
 
 -- ---- the call
 
-pub apply_out : (f : FileNow) (s epoch : ℕ) (call : Call) (a : Answer) → passes_now (did f s (Applying epoch call Pass a)).moments s ≡ passes_now f.moments s
+pub apply_out : (f : FileNow) (s epoch : ℕ) (call : Call) (a : Answer) → passes_now (did f s (Applying epoch None call Pass [] a)).moments s ≡ passes_now f.moments s
 unfolding passes_now
 apply_out f s epoch call a = rw (eq-eqb s s refl) refl
 
@@ -150,24 +150,24 @@ ask_same n s epoch further further' f t knows reply listed (Some more) same stan
 asks_same : (k n : ℕ) (f : FileNow) (t : FileTables) (s epoch client : ℕ) (row : ClientRow) (act : Action) (call : Call) (known : Known) (names : List (List ℕ)) → Stands n f t → s < n
     → is_out epoch (passes_now f.moments s) ≡ true
     → IsAsked n s epoch (asks k f s epoch client row act call known names) (asks_to k t s epoch client row act call known names)
-unfolding asks asks_to
+unfolding asks asks_to apply_ends
 asks_same zero n f t s epoch client row act call known names stands below out =
     record { file = stands; known = refl; reply = refl; names = refl; out = out }
 asks_same (suc k) n f t s epoch client row act call known names stands below out =
-    let a : Answer = apply_answer (at_server f s) epoch call Pass in
+    let a : Answer = apply_answer (at_server f s) epoch None call Pass in
     let reply : Reply = reply_of call a in
     let listed : List (List ℕ) = names ++ names_of reply.value in
     let knows : Known = learned client act call reply known in
-    let f' : FileNow = did f s (Applying epoch call Pass a) in
-    let t' : FileTables = stepped t s (Applying epoch call Pass a) in
-    let after : Stands n f' t' = plain_stands n f t s (Applying epoch call Pass a) stands (record { answered = refl; delivered = out })
-    (kept_inside n f t s (Applying epoch call Pass a) stands below) tt refl in
+    let f' : FileNow = did f s (Applying epoch None call Pass [] a) in
+    let t' : FileTables = stepped t s (Applying epoch None call Pass [] a) in
+    let after : Stands n f' t' = plain_stands n f t s (Applying epoch None call Pass [] a) stands (record { answered = (refl, refl); delivered = out })
+    (kept_inside n f t s (Applying epoch None call Pass [] a) stands below) tt refl in
     let still : is_out epoch (passes_now f'.moments s) ≡ true = ap (is_out epoch) (apply_out f s epoch call a) ∙ out in
     subst (λ v. IsAsked n s epoch (asks (suc k) f s epoch client row act call known names)
-    (ask_to (λ u more its all. asks_to k u s epoch client row act more its all) (stepped t s (Applying epoch call Pass (apply_answer v epoch call Pass)))
-    (learned client act call (reply_of call (apply_answer v epoch call Pass)) known)
-    (reply_of call (apply_answer v epoch call Pass)) (names ++ names_of (reply_of call (apply_answer v epoch call Pass)).value)
-    (goes_on_with client row act call (reply_of call (apply_answer v epoch call Pass)).value))) (sym (stands.slots s))
+    (ask_to (λ u more its all. asks_to k u s epoch client row act more its all) (stepped t s (Applying epoch None call Pass [] (apply_answer v epoch None call Pass)))
+    (learned client act call (reply_of call (apply_answer v epoch None call Pass)) known)
+    (reply_of call (apply_answer v epoch None call Pass)) (names ++ names_of (reply_of call (apply_answer v epoch None call Pass)).value)
+    (goes_on_with client row act call (reply_of call (apply_answer v epoch None call Pass)).value))) (sym (stands.slots s))
     (ask_same n s epoch (λ g more its all. asks k g s epoch client row act more its all) (λ u more its all. asks_to k u s epoch client row act more its all)
     f' t' knows reply listed (goes_on_with client row act call reply.value)
     (λ more. asks_same k n f' t' s epoch client row act more knows listed after below still) after still)

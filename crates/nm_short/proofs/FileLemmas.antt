@@ -53,7 +53,7 @@ pub delivers_is : (head : Head) (f : FileTables) (offer : Option SentTo)
 unfolding accept_told delivered sent_answer delivers_to
 delivers_is head f None = refl
 delivers_is head f (Some sent) =
-    accept_is head (stepped f sent.dest (Accepting sent.offer (accept_answer (slot_in f sent.dest) sent.offer.number))) sent
+    accept_is head (stepped f sent.dest (Accepting sent.offer [] (accept_answer (slot_in f sent.dest) sent.offer.number))) sent
     (accept_answer (slot_in f sent.dest) sent.offer.number)
 
 -- a knock that was answered so

@@ -69,7 +69,7 @@ commits_home head f = by_offer (latest_offer f.moments)
     by_offer : (sent : Option Sent) → (delivers_offer head f sent).file.home ≡ f.home
     by_offer None = refl
     by_offer (Some sent) = accept_home head sent.source sent.offer.number (accept_answer (at_server f (move_now f.moments sent.offer.number).dest) sent.offer.number)
-        (did f (move_now f.moments sent.offer.number).dest (Accepting sent.offer (accept_answer (at_server f (move_now f.moments sent.offer.number).dest) sent.offer.number)))
+        (did f (move_now f.moments sent.offer.number).dest (Accepting sent.offer [] (accept_answer (at_server f (move_now f.moments sent.offer.number).dest) sent.offer.number)))
 
 settles_home : (head : Head) (f : FileNow) → (settles head f).file.home ≡ f.home
 unfolding settles delivers_handed
@@ -132,12 +132,12 @@ asks_home : (k : ℕ) (f : FileNow) (s epoch client : ℕ) (row : ClientRow) (ac
 unfolding asks
 asks_home zero f s epoch client row act call known names = refl
 asks_home (suc k) f s epoch client row act call known names =
-    let a : Answer = apply_answer (at_server f s) epoch call Pass in
+    let a : Answer = apply_answer (at_server f s) epoch None call Pass in
     let reply : Reply = reply_of call a in
     let knows : Known = learned client act call reply known in
-    ask_home (λ g more its all. asks k g s epoch client row act more its all) (did f s (Applying epoch call Pass a)) knows reply (names ++ names_of reply.value)
+    ask_home (λ g more its all. asks k g s epoch client row act more its all) (did f s (Applying epoch None call Pass [] a)) knows reply (names ++ names_of reply.value)
     (goes_on_with client row act call reply.value)
-    (λ more. asks_home k (did f s (Applying epoch call Pass a)) s epoch client row act more knows (names ++ names_of reply.value))
+    (λ more. asks_home k (did f s (Applying epoch None call Pass [] a)) s epoch client row act more knows (names ++ names_of reply.value))
 
 asked_home : (f : FileNow) (client : ℕ) (act : Action) (known : Known) (names : List (List ℕ)) (reply : Option Reply)
     → (after_asking f client act known names reply).file.home ≡ f.home

@@ -11,14 +11,16 @@ use Rattle.nm_slot.specs.declared.answers.Begin.TheVariants as begin
 use Rattle.nm_slot.specs.declared.answers.Enter.TheVariants as enter
 use Rattle.nm_slot.specs.declared.answers.Freeze.TheVariants as freeze
 use Rattle.nm_slot.specs.declared.answers.Install.TheVariants as install
-use Rattle.nm_slot.specs.Answers.{commit_answer, committed_away, is_left_by}
+use Rattle.nm_slot.specs.declared.answers.Swept.TheVariants as sweep
+use Rattle.nm_slot.specs.Answers.{is_past, commit_answer, committed_away, is_left_by}
 use Rattle.nm_slot.specs.Changes.{own_after, own_accepted, own_installed}
+use Rattle.nm_slot.specs.Eras.{marked}
 use Rattle.nm_slot.specs.History.{IsAnswered}
 use Rattle.nm_slot.specs.Phases.{Phase, source_of, after_at_source, after_elsewhere}
 use Rattle.nm_slot.specs.Phases.Phase.{At, Closing, Frozen, Passing}
 use Rattle.nm_slot.specs.SlotNow.{Offer, Left, Own, SlotView, SlotStep}
 use Rattle.nm_slot.specs.SlotNow.HandedOver.{Committed, Again, Dead}
-use Rattle.nm_slot.specs.SlotNow.SlotStep.{Entering, Applying, Beginning, Freezing, Committing, Abandoning, Accepting, Installing, Withdrawing}
+use Rattle.nm_slot.specs.SlotNow.SlotStep.{Entering, Applying, Sweeping, Beginning, Freezing, Committing, Abandoning, Accepting, Installing, Withdrawing}
 use Rattle.nm_short.proofs.StepWords.{went_to, LeftStands, slot_by, own_next, next}
 
 -- ---- what a server remembers of its commits
@@ -34,22 +36,31 @@ committed_or _ = inl refl
 
 left_same : (step : SlotStep) (dest : ℕ) (own : Own) → is_committed step ≡ false → (own_after step dest own).left ≡ own.left
 left_same (Committing its (Committed parties)) dest own e = cc
-left_same (Accepting offer accept.Held) dest own e = held own.held
+left_same (Accepting offer leases accept.Held) dest own e = held own.held
   where
-    held : (its : Option Offer) → (own_accepted offer its own).left ≡ own.left
+    held : (its : Option Offer) → (own_accepted offer leases its own).left ≡ own.left
     held None = refl
     held (Some it) = by_test (it.number == offer.number)
       where
-        by_test : (b : Bool) → (cond b own (record own { held = Some offer; known = offer.number })).left ≡ own.left
+        by_test : (b : Bool) → (cond b own (record own { held = Some offer; brought = leases; known = offer.number })).left ≡ own.left
         by_test true = refl
         by_test false = refl
-left_same (Installing its install.Now) dest own e = held own.held
+left_same (Installing its ends install.Now) dest own e = held own.held
   where
-    held : (it : Option Offer) → (own_installed its it own).left ≡ own.left
+    held : (it : Option Offer) → (own_installed its ends it own).left ≡ own.left
     held None = refl
     held (Some it) = refl
 left_same (Entering (enter.Entered pass)) dest own e = refl
-left_same (Applying epoch call verdict (answer.Done place reply)) dest own e = refl
+left_same (Applying epoch lease call verdict ends (answer.Done place reply)) dest own e = refl
+left_same (Abandoning ends (abandon.Back its)) dest own e = refl
+left_same (Sweeping party era ends sweep.Ended) dest own e = refl
+left_same (Sweeping party era ends sweep.PutOff) dest own e = refl
+left_same (Sweeping party era ends sweep.Last) dest own e = refl
+left_same (Sweeping party era ends sweep.Nothing) dest own e = by_test (is_past party era own)
+  where
+    by_test : (b : Bool) → (cond b own (record own { eras = marked party era own.eras })).left ≡ own.left
+    by_test true = refl
+    by_test false = refl
 left_same (Beginning here to (begin.Begun its)) dest own e = refl
 left_same (Withdrawing its true) dest own e = refl
 left_same (Withdrawing its false) dest own e = refl
@@ -78,7 +89,7 @@ left_of_frozen : (q dest number s : ℕ) (own : ℕ → Own) (step : SlotStep) �
     → LeftStands (after_at_source (Frozen q dest number) step) (own_next step (Frozen q dest number) s own)
 left_of_frozen q dest number s own (Committing its (Committed parties)) e =
     rw (eq-eqb s q e, eq-eqb q q refl) refl
-left_of_frozen q dest number s own (Abandoning (abandon.Back its)) e = tt
+left_of_frozen q dest number s own (Abandoning ends (abandon.Back its)) e = tt
 left_of_frozen q dest number s own _ e = tt
 
 left_of_passing : (q dest s : ℕ) (own : ℕ → Own) (step : SlotStep) (b : Bool) → (s == q) ≡ b
@@ -96,7 +107,7 @@ committed_answer v step its parties e a = subst (λ x. IsAnswered v x) e a
 
 passing_stays : (q dest number s : ℕ) (own : ℕ → Own) (step : SlotStep) → went_to (own q).left ≡ Some dest
     → LeftStands (next (Passing q dest number) s step) own
-passing_stays q dest number s own (Installing its install.Now) before = by_test (s == q) (s == dest) (its == number)
+passing_stays q dest number s own (Installing its ends install.Now) before = by_test (s == q) (s == dest) (its == number)
   where
     by_test : (b c d : Bool) → LeftStands (cond b (Passing q dest number) (cond (c && d) (At dest) (Passing q dest number))) own
     by_test true c d = before
@@ -127,7 +138,7 @@ left_at_source : (p : Phase) (s : ℕ) (own : ℕ → Own) (step : SlotStep) →
 left_at_source (At q) s own (Beginning here dest (begin.Begun number)) e at = tt
 left_at_source (At q) s own _ e at = tt
 left_at_source (Closing q dest number) s own (Freezing (freeze.Frozen its)) e at = tt
-left_at_source (Closing q dest number) s own (Abandoning (abandon.Back its)) e at = tt
+left_at_source (Closing q dest number) s own (Abandoning ends (abandon.Back its)) e at = tt
 left_at_source (Closing q dest number) s own _ e at = tt
 left_at_source (Frozen q dest number) s own step e at = left_of_frozen q dest number s own step at
 left_at_source (Passing q dest number) s own step e at = cc

@@ -44,13 +44,13 @@ handed_kept fs p begins move own t s (Beginning here dest (begin.Begun its)) a f
     no_move_there its k move (new_move s dest) (begun_new p begins move own t s here dest its a facts) before
 handed_kept fs p begins move own t s (Imaging (Some offer)) a facts k before =
     by_number offer.number k (λ m. is_handed m.fate) true (record (move k) { offer = Some offer }) (move k) before before
-handed_kept fs p begins move own t s (Accepting offer accept.Held) a facts k before =
+handed_kept fs p begins move own t s (Accepting offer leases accept.Held) a facts k before =
     by_number offer.number k (λ m. is_handed m.fate) true (record (move k) { prepared = true }) (move k) before before
 handed_kept fs p begins move own t s (Committing its (Committed parties)) a facts k before =
     by_number its k (λ m. is_handed m.fate) true (record (move k) { fate = Handed }) (move k) refl before
-handed_kept fs p begins move own t s (Abandoning (abandon.Back its)) a facts k before =
-    not_given_up its k move (record (move k) { fate = GivenUp }) (given_up_at p begins move own t s its (column p t s) refl a facts) before
-handed_kept fs p begins move own t s (Installing its install.Now) a facts k before =
+handed_kept fs p begins move own t s (Abandoning ends (abandon.Back its)) a facts k before =
+    not_given_up its k move (record (move k) { fate = GivenUp }) (given_up_at p begins move own t s its (column p t s) refl a.0 facts) before
+handed_kept fs p begins move own t s (Installing its ends install.Now) a facts k before =
     by_number its k (λ m. is_handed m.fate) true (record (move k) { fate = Done }) (move k) refl before
 handed_kept fs p begins move own t s _ a facts k before = before
 
@@ -71,13 +71,13 @@ dest_kept fs p begins move own t s (Beginning here dest (begin.Begun its)) a fac
     dest_there its k move (new_move s dest) (begun_new p begins move own t s here dest its a facts) began
 dest_kept fs p begins move own t s (Imaging (Some offer)) a facts k began =
     by_number offer.number k (λ m. m.dest) (move k).dest (record (move k) { offer = Some offer }) (move k) refl refl
-dest_kept fs p begins move own t s (Accepting offer accept.Held) a facts k began =
+dest_kept fs p begins move own t s (Accepting offer leases accept.Held) a facts k began =
     by_number offer.number k (λ m. m.dest) (move k).dest (record (move k) { prepared = true }) (move k) refl refl
 dest_kept fs p begins move own t s (Committing its (Committed parties)) a facts k began =
     by_number its k (λ m. m.dest) (move k).dest (record (move k) { fate = Handed }) (move k) refl refl
-dest_kept fs p begins move own t s (Abandoning (abandon.Back its)) a facts k began =
+dest_kept fs p begins move own t s (Abandoning ends (abandon.Back its)) a facts k began =
     by_number its k (λ m. m.dest) (move k).dest (record (move k) { fate = GivenUp }) (move k) refl refl
-dest_kept fs p begins move own t s (Installing its install.Now) a facts k began =
+dest_kept fs p begins move own t s (Installing its ends install.Now) a facts k began =
     by_number its k (λ m. m.dest) (move k).dest (record (move k) { fate = Done }) (move k) refl refl
 dest_kept fs p begins move own t s _ a facts k began = refl
 
@@ -96,8 +96,8 @@ within n its k new old e o = by_test (its == k)
 pub dest_within : (n s k : ℕ) (step : SlotStep) (move : Move) → GoesBelow n step → move.dest < n → (move_after k s step move).dest < n
 dest_within n s k (Beginning here dest (begin.Begun its)) move new old = within n its k (new_move s dest) move new old
 dest_within n s k (Imaging (Some offer)) move new old = within n offer.number k (record move { offer = Some offer }) move old old
-dest_within n s k (Accepting offer accept.Held) move new old = within n offer.number k (record move { prepared = true }) move old old
+dest_within n s k (Accepting offer leases accept.Held) move new old = within n offer.number k (record move { prepared = true }) move old old
 dest_within n s k (Committing its (Committed parties)) move new old = within n its k (record move { fate = Handed }) move old old
-dest_within n s k (Abandoning (abandon.Back its)) move new old = within n its k (record move { fate = GivenUp }) move old old
-dest_within n s k (Installing its install.Now) move new old = within n its k (record move { fate = Done }) move old old
+dest_within n s k (Abandoning ends (abandon.Back its)) move new old = within n its k (record move { fate = GivenUp }) move old old
+dest_within n s k (Installing its ends install.Now) move new old = within n its k (record move { fate = Done }) move old old
 dest_within n s k _ move new old = old

@@ -5,7 +5,7 @@ use Rattle.nm_script.specs.declared.script.Head.{Head}
 use Rattle.nm_slot.specs.declared.answers.Abandon.{Abandon}
 use Rattle.nm_slot.specs.declared.answers.Begin.{Begin}
 use Rattle.nm_slot.specs.declared.answers.Begin.TheVariants as begin
-use Rattle.nm_slot.specs.Answers.{begin_answer, abandon_answer}
+use Rattle.nm_slot.specs.Answers.{begin_answer, abandon_answer, abandon_ends}
 use Rattle.nm_slot.specs.SlotNow.{SlotStep}
 use Rattle.nm_slot.specs.SlotNow.SlotStep.{Beginning, Abandoning}
 use Rattle.nm_short.specs.ShortRun.{FileNow, Went, at_server, did, source, phase_row, move_row, goes_well, ends_with, after_begin, begins, abandon_told, abandons}
@@ -73,8 +73,9 @@ unfolding abandons abandons_to
 abandons_same n head f t stands =
     let s : ℕ = source f in
     let a : Abandon = abandon_answer (at_server f s) in
-    subst (λ x. IsWent n (abandons head f) (ends_in head (stepped t x (Abandoning (abandon_answer (slot_in t x)))) (abandon_told head x (abandon_answer (slot_in t x))))) (sym stands.at)
-    (subst (λ v. IsWent n (abandons head f) (ends_in head (stepped t s (Abandoning (abandon_answer v))) (abandon_told head s (abandon_answer v)))) (sym (stands.slots s))
-    (ends_same n head (did f s (Abandoning a)) (stepped t s (Abandoning a)) (abandon_told head s a)
-    (plain_stands n f t s (Abandoning a) stands (record { answered = refl; delivered = tt })
-    (kept_inside n f t s (Abandoning a) stands (source_within n f t stands)) tt refl)))
+    let ends : List Party = abandon_ends (at_server f s) in
+    subst (λ x. IsWent n (abandons head f) (ends_in head (stepped t x (Abandoning (abandon_ends (slot_in t x)) (abandon_answer (slot_in t x)))) (abandon_told head x (abandon_answer (slot_in t x))))) (sym stands.at)
+    (subst (λ v. IsWent n (abandons head f) (ends_in head (stepped t s (Abandoning (abandon_ends v) (abandon_answer v))) (abandon_told head s (abandon_answer v)))) (sym (stands.slots s))
+    (ends_same n head (did f s (Abandoning ends a)) (stepped t s (Abandoning ends a)) (abandon_told head s a)
+    (plain_stands n f t s (Abandoning ends a) stands (record { answered = (refl, refl); delivered = tt })
+    (kept_inside n f t s (Abandoning ends a) stands (source_within n f t stands)) tt refl)))

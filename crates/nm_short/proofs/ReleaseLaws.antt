@@ -51,13 +51,13 @@ none_out f s enter.Delay e = rw (eq-eqb s s refl) refl
 none_out f s enter.Unknown e = rw (eq-eqb s s refl) refl
 
 within_by : (n : ℕ) (f : FileNow) (t : FileTables) (s epoch : ℕ) (call : Call) (a : Answer) → Stands n f t → s < n
-    → is_out epoch (passes_of s f) ≡ true → a ≡ apply_answer (at_server f s) epoch call Pass
-    → Stands n (did (did f s (Applying epoch call Pass a)) s (Leaving epoch)) (stepped (stepped t s (Applying epoch call Pass a)) s (Leaving epoch))
+    → is_out epoch (passes_of s f) ≡ true → a ≡ apply_answer (at_server f s) epoch None call Pass
+    → Stands n (did (did f s (Applying epoch None call Pass [] a)) s (Leaving epoch)) (stepped (stepped t s (Applying epoch None call Pass [] a)) s (Leaving epoch))
 within_by n f t s epoch call a stands below out e =
-    let f' : FileNow = did f s (Applying epoch call Pass a) in
-    let t' : FileTables = stepped t s (Applying epoch call Pass a) in
-    let after : Stands n f' t' = plain_stands n f t s (Applying epoch call Pass a) stands (record { answered = e; delivered = out })
-    (kept_inside n f t s (Applying epoch call Pass a) stands below) tt refl in
+    let f' : FileNow = did f s (Applying epoch None call Pass [] a) in
+    let t' : FileTables = stepped t s (Applying epoch None call Pass [] a) in
+    let after : Stands n f' t' = plain_stands n f t s (Applying epoch None call Pass [] a) stands (record { answered = (e, refl); delivered = out })
+    (kept_inside n f t s (Applying epoch None call Pass [] a) stands below) tt refl in
     let still : is_out epoch (passes_of s f') ≡ true = ap (is_out epoch) (apply_out f s epoch call a) ∙ out in
     plain_stands n f' t' s (Leaving epoch) after (record { answered = tt; delivered = still }) (kept_inside n f' t' s (Leaving epoch) after below) tt refl
 
@@ -65,11 +65,11 @@ within_same : (n : ℕ) (f : FileNow) (t : FileTables) (s epoch : ℕ) (call : C
     → IsFreed n (frees_within f s epoch call) (frees_within_to t s epoch call)
 unfolding frees_within frees_within_to
 within_same n f t s epoch call stands below out =
-    let a : Answer = apply_answer (at_server f s) epoch call Pass in
-    subst (λ v. IsFreed n (record { file = did (did f s (Applying epoch call Pass a)) s (Leaving epoch); freed = freed_by (reply_of call a).status })
+    let a : Answer = apply_answer (at_server f s) epoch None call Pass in
+    subst (λ v. IsFreed n (record { file = did (did f s (Applying epoch None call Pass [] a)) s (Leaving epoch); freed = freed_by (reply_of call a).status })
     (record {
-      file = stepped (stepped t s (Applying epoch call Pass (apply_answer v epoch call Pass))) s (Leaving epoch);
-      freed = freed_by (reply_of call (apply_answer v epoch call Pass)).status;
+      file = stepped (stepped t s (Applying epoch None call Pass [] (apply_answer v epoch None call Pass))) s (Leaving epoch);
+      freed = freed_by (reply_of call (apply_answer v epoch None call Pass)).status;
     })) (sym (stands.slots s))
     (record { file = within_by n f t s epoch call a stands below out refl; freed = refl })
 
@@ -102,8 +102,8 @@ freed_same n f t s call stands =
 within_passes : (f : FileNow) (s epoch : ℕ) (call : Call) (rest : List ℕ) → passes_of s f ≡ epoch ∷ rest → passes_of s (frees_within f s epoch call).file ≡ rest
 unfolding frees_within
 within_passes f s epoch call rest e =
-    let a : Answer = apply_answer (at_server f s) epoch call Pass in
-    left_out (did f s (Applying epoch call Pass a)) s epoch rest (apply_out f s epoch call a ∙ e)
+    let a : Answer = apply_answer (at_server f s) epoch None call Pass in
+    left_out (did f s (Applying epoch None call Pass [] a)) s epoch rest (apply_out f s epoch call a ∙ e)
 
 after_passes : (f : FileNow) (s : ℕ) (call : Call) (a : Enter) → passes_of s (frees_after (did f s (Entering a)) s call a).file ≡ passes_of s f
 unfolding frees_after let_in

@@ -46,13 +46,13 @@ unfolding begin_answer
 sent_kept fs p begins move own t s (Beginning here dest (begin.Begun its)) a facts x other it =
     sent_before x its x.offer.number move (new_move s dest) (begun_new p begins move own t s here dest its a facts) it
 sent_kept fs p begins move own t s (Imaging (Some offer)) a facts x other it = absurd (other offer refl)
-sent_kept fs p begins move own t s (Accepting offer accept.Held) a facts x other it =
+sent_kept fs p begins move own t s (Accepting offer leases accept.Held) a facts x other it =
     still_sent x offer.number x.offer.number (record (move x.offer.number) { prepared = true }) (move x.offer.number) refl refl it
 sent_kept fs p begins move own t s (Committing its (Committed parties)) a facts x other it =
     still_sent x its x.offer.number (record (move x.offer.number) { fate = Handed }) (move x.offer.number) refl refl it
-sent_kept fs p begins move own t s (Abandoning (abandon.Back its)) a facts x other it =
+sent_kept fs p begins move own t s (Abandoning ends (abandon.Back its)) a facts x other it =
     still_sent x its x.offer.number (record (move x.offer.number) { fate = GivenUp }) (move x.offer.number) refl refl it
-sent_kept fs p begins move own t s (Installing its install.Now) a facts x other it =
+sent_kept fs p begins move own t s (Installing its ends install.Now) a facts x other it =
     still_sent x its x.offer.number (record (move x.offer.number) { fate = Done }) (move x.offer.number) refl refl it
 sent_kept fs p begins move own t s _ a facts x other it = it
 
@@ -74,13 +74,14 @@ was_sent_next fs p begins move own t s (Imaging (Some offer)) sent a facts there
 was_sent_next fs p begins move own t s (Imaging None) sent a facts there before x e = before x e
 was_sent_next fs p begins move own t s (Entering b) sent a facts there before x e = before x e
 was_sent_next fs p begins move own t s (Leaving b) sent a facts there before x e = before x e
-was_sent_next fs p begins move own t s (Applying b c d f) sent a facts there before x e = before x e
+was_sent_next fs p begins move own t s (Applying b c d f g h) sent a facts there before x e = before x e
 was_sent_next fs p begins move own t s (Beginning b c d) sent a facts there before x e = sent_kept fs p begins move own t s (Beginning b c d) a facts x (λ o i. cc) (before x e)
 was_sent_next fs p begins move own t s (Freezing b) sent a facts there before x e = before x e
 was_sent_next fs p begins move own t s (Committing b c) sent a facts there before x e = sent_kept fs p begins move own t s (Committing b c) a facts x (λ o i. cc) (before x e)
-was_sent_next fs p begins move own t s (Abandoning b) sent a facts there before x e = sent_kept fs p begins move own t s (Abandoning b) a facts x (λ o i. cc) (before x e)
-was_sent_next fs p begins move own t s (Accepting b c) sent a facts there before x e = sent_kept fs p begins move own t s (Accepting b c) a facts x (λ o i. cc) (before x e)
-was_sent_next fs p begins move own t s (Installing b c) sent a facts there before x e = sent_kept fs p begins move own t s (Installing b c) a facts x (λ o i. cc) (before x e)
+was_sent_next fs p begins move own t s (Sweeping b c d f) sent a facts there before x e = before x e
+was_sent_next fs p begins move own t s (Abandoning b c) sent a facts there before x e = sent_kept fs p begins move own t s (Abandoning b c) a facts x (λ o i. cc) (before x e)
+was_sent_next fs p begins move own t s (Accepting b c d) sent a facts there before x e = sent_kept fs p begins move own t s (Accepting b c d) a facts x (λ o i. cc) (before x e)
+was_sent_next fs p begins move own t s (Installing b c d) sent a facts there before x e = sent_kept fs p begins move own t s (Installing b c d) a facts x (λ o i. cc) (before x e)
 was_sent_next fs p begins move own t s (Withdrawing b c) sent a facts there before x e = before x e
 
 -- ---- what was handed over
@@ -115,11 +116,12 @@ was_told_next fs p begins move own t s (Committing its Again) told a facts lefts
 was_told_next fs p begins move own t s (Committing its (Dead known)) told a facts lefts before n e = before n e
 was_told_next fs p begins move own t s (Entering b) told a facts lefts before n e = before n e
 was_told_next fs p begins move own t s (Leaving b) told a facts lefts before n e = before n e
-was_told_next fs p begins move own t s (Applying b c d f) told a facts lefts before n e = before n e
+was_told_next fs p begins move own t s (Applying b c d f g h) told a facts lefts before n e = before n e
 was_told_next fs p begins move own t s (Beginning b c d) told a facts lefts before n e = handed_kept fs p begins move own t s (Beginning b c d) a facts n (before n e)
 was_told_next fs p begins move own t s (Freezing b) told a facts lefts before n e = before n e
 was_told_next fs p begins move own t s (Imaging b) told a facts lefts before n e = handed_kept fs p begins move own t s (Imaging b) a facts n (before n e)
-was_told_next fs p begins move own t s (Abandoning b) told a facts lefts before n e = handed_kept fs p begins move own t s (Abandoning b) a facts n (before n e)
-was_told_next fs p begins move own t s (Accepting b c) told a facts lefts before n e = handed_kept fs p begins move own t s (Accepting b c) a facts n (before n e)
-was_told_next fs p begins move own t s (Installing b c) told a facts lefts before n e = handed_kept fs p begins move own t s (Installing b c) a facts n (before n e)
+was_told_next fs p begins move own t s (Sweeping b c d f) told a facts lefts before n e = before n e
+was_told_next fs p begins move own t s (Abandoning b c) told a facts lefts before n e = handed_kept fs p begins move own t s (Abandoning b c) a facts n (before n e)
+was_told_next fs p begins move own t s (Accepting b c d) told a facts lefts before n e = handed_kept fs p begins move own t s (Accepting b c d) a facts n (before n e)
+was_told_next fs p begins move own t s (Installing b c d) told a facts lefts before n e = handed_kept fs p begins move own t s (Installing b c d) a facts n (before n e)
 was_told_next fs p begins move own t s (Withdrawing b c) told a facts lefts before n e = before n e

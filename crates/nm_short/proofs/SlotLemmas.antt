@@ -47,9 +47,9 @@ unfolding enter_answer
 enter_past fs slots s past = ap enter_answer (slot_past fs slots s past)
 
 pub apply_past : (fs : ℕ) (slots : List SlotNow) (s epoch : ℕ) (call : Call) (verdict : Verdict) → length slots ≤ s
-    → apply_answer (slot_at (record { fs = fs; views = map view_of slots }) s) epoch call verdict ≡ answer.Strayed epoch 0
+    → apply_answer (slot_at (record { fs = fs; views = map view_of slots }) s) epoch None call verdict ≡ answer.Strayed epoch 0
 unfolding apply_answer
-apply_past fs slots s epoch call verdict past = ap (λ v. apply_answer v epoch call verdict) (slot_past fs slots s past)
+apply_past fs slots s epoch call verdict past = ap (λ v. apply_answer v epoch None call verdict) (slot_past fs slots s past)
 
 pub begin_past : (fs : ℕ) (slots : List SlotNow) (s here dest : ℕ) → length slots ≤ s
     → begin_answer (slot_at (record { fs = fs; views = map view_of slots }) s) here dest ≡ begin.NotServed

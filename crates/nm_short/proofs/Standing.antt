@@ -165,14 +165,14 @@ abbrev pub is_plain : SlotStep → Bool
 is_plain (Imaging (Some offer)) = false
 is_plain (Committing number (Committed parties)) = false
 is_plain (Committing number Again) = false
-is_plain (Installing number install.Now) = false
+is_plain (Installing number ends install.Now) = false
 is_plain _ = true
 
 plain_installs : (step : SlotStep) → is_plain step ≡ true → is_installing step ≡ false
 plain_installs (Imaging (Some offer)) e = cc
 plain_installs (Committing number (Committed parties)) e = cc
 plain_installs (Committing number Again) e = cc
-plain_installs (Installing number install.Now) e = cc
+plain_installs (Installing number ends install.Now) e = cc
 plain_installs _ e = refl
 
 plain_sends : (f : FileNow) (s : ℕ) (step : SlotStep) → is_plain step ≡ true → latest_offer (did f s step).moments ≡ latest_offer f.moments

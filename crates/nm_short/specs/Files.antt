@@ -7,7 +7,7 @@ use Rattle.nm_slot.specs.declared.answers.Accept.{Accept}
 use Rattle.nm_slot.specs.declared.answers.Accept.TheVariants as accept
 use Rattle.nm_slot.specs.declared.answers.Enter.{Enter}
 use Rattle.nm_slot.specs.declared.answers.Enter.TheVariants as enter
-use Rattle.nm_slot.specs.Answers.{accept_answer, install_answer}
+use Rattle.nm_slot.specs.Answers.{accept_answer, install_answer, install_ends}
 use Rattle.nm_slot.specs.Images.{offer_of, MayBeOffered}
 use Rattle.nm_slot.specs.SlotNow.SlotStep.{Accepting, Installing}
 use Rattle.nm_short.specs.declared.asks.Asked.{Asked as CodeAsked}
@@ -64,7 +64,7 @@ sent_answer f (Some sent) = Some (accept_answer (slot_in f sent.dest) sent.offer
 unfoldable pub delivered : FileTables → Option SentTo → FileTables
 delivered f None = f
 delivered f (Some sent) =
-    accepted_in (stepped f sent.dest (Accepting sent.offer (accept_answer (slot_in f sent.dest) sent.offer.number))) sent
+    accepted_in (stepped f sent.dest (Accepting sent.offer [] (accept_answer (slot_in f sent.dest) sent.offer.number))) sent
     (accept_answer (slot_in f sent.dest) sent.offer.number)
 
 -- what is printed of it
@@ -77,7 +77,7 @@ accept_told head f (Some accept.Live) = ends_in head f (move_told.Refused cause.
 -- what the word that a move was handed over leaves
 unfoldable pub installed_in : FileTables → HandedTo → FileTables
 installed_in f handed =
-    record (stepped f handed.dest (Installing handed.number (install_answer (slot_in f handed.dest) handed.number))) {
+    record (stepped f handed.dest (Installing handed.number (install_ends (slot_in f handed.dest)) (install_answer (slot_in f handed.dest) handed.number))) {
       at = had_by (install_answer (slot_in f handed.dest) handed.number) handed.dest f.at;
     }
 

@@ -35,7 +35,7 @@ use Rattle.nm_slot.specs.declared.answers.Enter.{Enter}
 use Rattle.nm_slot.specs.declared.answers.Enter.TheVariants as enter
 use Rattle.nm_slot.specs.declared.answers.Freeze.{Freeze}
 use Rattle.nm_slot.specs.declared.answers.Freeze.TheVariants as freeze
-use Rattle.nm_slot.specs.Answers.{enter_answer, apply_answer, begin_answer, freeze_answer, image_answer, commit_answer, abandon_answer, accept_answer, install_answer}
+use Rattle.nm_slot.specs.Answers.{enter_answer, apply_answer, begin_answer, freeze_answer, image_answer, commit_answer, abandon_answer, abandon_ends, accept_answer, install_answer, install_ends}
 use Rattle.nm_slot.specs.History.{Home, slot_now, tables_now}
 use Rattle.nm_slot.specs.Moves.{Sent, move_now, latest_offer, latest_handed}
 use Rattle.nm_slot.specs.Phases.{Phase, Moment, phase_now, source_of}
@@ -142,7 +142,7 @@ unfoldable pub abandons : Head → FileNow → Went
 abandons head f =
     let s = source f in
     let a = abandon_answer (at_server f s) in
-    ends_with head (did f s (Abandoning a)) (abandon_told head s a)
+    ends_with head (did f s (Abandoning (abandon_ends (at_server f s)) a)) (abandon_told head s a)
 
 -- `commit F`: the latest offer reaches its destination, and the answer its source. Where it is held the source commits.
 abbrev pub commits_at : FileNow → ℕ → ℕ → FileNow
@@ -161,7 +161,7 @@ delivers_offer head f None = no_packet f
 delivers_offer head f (Some sent) =
     let d = (move_now f.moments sent.offer.number).dest in
     let a = accept_answer (at_server f d) sent.offer.number in
-    after_accept head (did f d (Accepting sent.offer a)) sent.source sent.offer.number a
+    after_accept head (did f d (Accepting sent.offer [] a)) sent.source sent.offer.number a
 
 unfoldable pub commits : Head → FileNow → Went
 commits head f = delivers_offer head f (latest_offer f.moments)
@@ -171,7 +171,7 @@ unfoldable pub delivers_handed : Head → FileNow → Option ℕ → Went
 delivers_handed head f None = no_packet f
 delivers_handed head f (Some number) =
     let d = (move_now f.moments number).dest in
-    goes_well head (did f d (Installing number (install_answer (at_server f d) number)))
+    goes_well head (did f d (Installing number (install_ends (at_server f d)) (install_answer (at_server f d) number)))
 
 unfoldable pub settles : Head → FileNow → Went
 settles head f = delivers_handed head f (latest_handed f.moments)
@@ -223,9 +223,9 @@ pub record Asked : Type 0 where
 unfoldable pub asks : ℕ → FileNow → ℕ → ℕ → ℕ → ClientRow → Action → Call → Known → List (List ℕ) → Asked
 asks zero f s epoch client row act call known names = record { file = f; known = known; reply = None; names = names }
 asks (suc n) f s epoch client row act call known names =
-    let a = apply_answer (at_server f s) epoch call Pass in
+    let a = apply_answer (at_server f s) epoch None call Pass in
     let reply = reply_of call a in
-    let now = did f s (Applying epoch call Pass a) in
+    let now = did f s (Applying epoch None call Pass [] a) in
     let knows = learned client act call reply known in
     let listed = names ++ names_of reply.value in
     elim (goes_on_with client row act call reply.value) [
@@ -280,8 +280,8 @@ pub record FreedFile : Type 0 where
 -- with the pass the call is made, and the pass comes back
 unfoldable pub frees_within : FileNow → ℕ → ℕ → Call → FreedFile
 frees_within f s epoch call =
-    let a = apply_answer (at_server f s) epoch call Pass in
-    record { file = did (did f s (Applying epoch call Pass a)) s (Leaving epoch); freed = freed_by (reply_of call a).status }
+    let a = apply_answer (at_server f s) epoch None call Pass in
+    record { file = did (did f s (Applying epoch None call Pass [] a)) s (Leaving epoch); freed = freed_by (reply_of call a).status }
 
 -- A file system that isn't there is passed over.
 unfoldable pub frees_after : FileNow → ℕ → Call → Enter → FreedFile

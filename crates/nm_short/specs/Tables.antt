@@ -35,7 +35,7 @@ use Rattle.nm_slot.specs.declared.answers.Install.{Install}
 use Rattle.nm_slot.specs.declared.answers.Install.TheVariants as install
 use Rattle.nm_slot.specs.declared.phase.Phase.{Phase as SlotPhase}
 use Rattle.nm_slot.specs.declared.phase.Phase.TheVariants as slot_phase
-use Rattle.nm_slot.specs.Answers.{enter_answer, apply_answer, begin_answer, freeze_answer, image_answer, commit_answer, abandon_answer, accept_answer, install_answer}
+use Rattle.nm_slot.specs.Answers.{enter_answer, apply_answer, begin_answer, freeze_answer, image_answer, commit_answer, abandon_answer, abandon_ends, accept_answer, install_answer, install_ends}
 use Rattle.nm_slot.specs.Changes.{slot_after}
 use Rattle.nm_slot.specs.Phases.{Phase}
 use Rattle.nm_slot.specs.Phases.Phase.{At, Closing, Frozen, Passing}
@@ -143,7 +143,7 @@ freezes_to head f =
 unfoldable pub abandons_to : Head → FileTables → WentTo
 abandons_to head f =
     let a = abandon_answer (slot_in f f.at) in
-    ends_in head (stepped f f.at (Abandoning a)) (abandon_told head f.at a)
+    ends_in head (stepped f f.at (Abandoning (abandon_ends (slot_in f f.at)) a)) (abandon_told head f.at a)
 
 abbrev pub hands : HandedOver → ℕ → ℕ → Option HandedTo → Option HandedTo
 hands (Committed parties) dest number before = Some (record { dest = dest; number = number })
@@ -167,7 +167,7 @@ unfoldable pub delivers_to : Head → FileTables → Option SentTo → WentTo
 delivers_to head f None = nothing_sent f
 delivers_to head f (Some sent) =
     let a = accept_answer (slot_in f sent.dest) sent.offer.number in
-    accept_to head (stepped f sent.dest (Accepting sent.offer a)) sent a
+    accept_to head (stepped f sent.dest (Accepting sent.offer [] a)) sent a
 
 abbrev pub commits_to : Head → FileTables → WentTo
 commits_to head f = delivers_to head f f.offer
@@ -182,7 +182,7 @@ unfoldable pub settles_by : Head → FileTables → Option HandedTo → WentTo
 settles_by head f None = nothing_sent f
 settles_by head f (Some handed) =
     let a = install_answer (slot_in f handed.dest) handed.number in
-    goes_well_to head (record (stepped f handed.dest (Installing handed.number a)) { at = had_by a handed.dest f.at })
+    goes_well_to head (record (stepped f handed.dest (Installing handed.number (install_ends (slot_in f handed.dest)) a)) { at = had_by a handed.dest f.at })
 
 abbrev pub settles_to : Head → FileTables → WentTo
 settles_to head f = settles_by head f f.handed
@@ -228,9 +228,9 @@ pub record AskedTo : Type 0 where
 unfoldable pub asks_to : ℕ → FileTables → ℕ → ℕ → ℕ → ClientRow → Action → Call → Known → List (List ℕ) → AskedTo
 asks_to zero f s epoch client row act call known names = record { file = f; known = known; reply = None; names = names }
 asks_to (suc n) f s epoch client row act call known names =
-    let a = apply_answer (slot_in f s) epoch call Pass in
+    let a = apply_answer (slot_in f s) epoch None call Pass in
     let reply = reply_of call a in
-    let now = stepped f s (Applying epoch call Pass a) in
+    let now = stepped f s (Applying epoch None call Pass [] a) in
     let knows = learned client act call reply known in
     let listed = names ++ names_of reply.value in
     elim (goes_on_with client row act call reply.value) [
@@ -280,8 +280,8 @@ pub record FreedTo : Type 0 where
 
 unfoldable pub frees_within_to : FileTables → ℕ → ℕ → Call → FreedTo
 frees_within_to f s epoch call =
-    let a = apply_answer (slot_in f s) epoch call Pass in
-    record { file = stepped (stepped f s (Applying epoch call Pass a)) s (Leaving epoch); freed = freed_by (reply_of call a).status }
+    let a = apply_answer (slot_in f s) epoch None call Pass in
+    record { file = stepped (stepped f s (Applying epoch None call Pass [] a)) s (Leaving epoch); freed = freed_by (reply_of call a).status }
 
 unfoldable pub frees_after_to : FileTables → ℕ → Call → Enter → FreedTo
 frees_after_to f s call (enter.Entered pass) = frees_within_to f s pass.epoch call

@@ -314,8 +314,8 @@ impl FileSlots {
         call: &Call,
         names: &mut Names,
     ) -> Result<Reply, Memory>
-        ensures reply { IfOk result (λ reply. reply ≡ reply_of call.now (apply_answer (slot_in self.old server) pass.now.epoch call.now Pass)) }
-        ensures after { OnOk result (self.new ≡ stepped self.old server (Applying pass.now.epoch call.now Pass (apply_answer (slot_in self.old server) pass.now.epoch call.now Pass))) }
+        ensures reply { IfOk result (λ reply. reply ≡ reply_of call.now (apply_answer (slot_in self.old server) pass.now.epoch None call.now Pass)) }
+        ensures after { OnOk result (self.new ≡ stepped self.old server (Applying pass.now.epoch None call.now Pass [] (apply_answer (slot_in self.old server) pass.now.epoch None call.now Pass))) }
         ensures names { IfOk result (λ reply. names.new ≡ names.old ++ names_of reply.value) }
     {
         let answer = self.apply(server, pass, call)?;
@@ -337,8 +337,8 @@ impl FileSlots {
         names: &mut Names,
     ) -> Result<Replied, Memory>
         requires { length row.now.name ≤ 16 }
-        ensures reply { IfOk result (λ replied. replied.reply ≡ reply_of call.now (apply_answer (slot_in self.old server) pass.now.epoch call.now Pass)) }
-        ensures after { OnOk result (self.new ≡ stepped self.old server (Applying pass.now.epoch call.now Pass (apply_answer (slot_in self.old server) pass.now.epoch call.now Pass))) }
+        ensures reply { IfOk result (λ replied. replied.reply ≡ reply_of call.now (apply_answer (slot_in self.old server) pass.now.epoch None call.now Pass)) }
+        ensures after { OnOk result (self.new ≡ stepped self.old server (Applying pass.now.epoch None call.now Pass [] (apply_answer (slot_in self.old server) pass.now.epoch None call.now Pass))) }
         ensures known { IfOk result (λ replied. clients.new ≡ learned client action.now call.now replied.reply clients.old) }
         ensures names { IfOk result (λ replied. names.new ≡ names.old ++ names_of replied.reply.value) }
         ensures next { IfOk result (λ replied. replied.next ≡ goes_on_with client row.now action.now call.now replied.reply.value) }

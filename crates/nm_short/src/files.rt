@@ -1,7 +1,7 @@
 //! A file system: what each server has of it, and what its servers sent one another.
 ghost use Rattle.std.specs.Prelude.{◌≡◌, None, IfOk, OnOk, OnErr, option_map};
 ghost use Rattle.nm_rules.specs.declared.calls.Verdict.TheVariants.{Pass};
-ghost use Rattle.nm_slot.specs.Answers.{enter_answer, apply_answer, begin_answer, freeze_answer, commit_answer, abandon_answer, accept_answer, install_answer};
+ghost use Rattle.nm_slot.specs.Answers.{enter_answer, apply_answer, begin_answer, freeze_answer, commit_answer, abandon_answer, abandon_ends, accept_answer, install_answer};
 ghost use Rattle.nm_slot.specs.Shown.{table_answer};
 ghost use Rattle.nm_slot.specs.SlotNow.{phase_of};
 ghost use Rattle.nm_slot.specs.SlotNow.SlotStep.{Entering, Leaving, Applying, Beginning, Freezing, Committing, Abandoning};
@@ -196,8 +196,8 @@ impl FileSlots {
     /// Makes a call with a pass. After want of memory nothing is promised of the file system.
     #[tactic(auto, unfolding(crate::specs::Slots::slot_at, crate::specs::Slots::slots_after, crate::specs::Tables::slot_in, crate::specs::Tables::stepped))]
     pub fn apply(&mut self, server: ServerNum, pass: &FsPass, call: &Call) -> Result<Answer, Memory>
-        ensures answer { IfOk result (λ a. a ≡ apply_answer (slot_in self.old server) pass.now.epoch call.now Pass) }
-        ensures after { IfOk result (λ a. self.new ≡ stepped self.old server (Applying pass.now.epoch call.now Pass a)) }
+        ensures answer { IfOk result (λ a. a ≡ apply_answer (slot_in self.old server) pass.now.epoch None call.now Pass) }
+        ensures after { IfOk result (λ a. self.new ≡ stepped self.old server (Applying pass.now.epoch None call.now Pass [] a)) }
     {
         Ok(self.slots.apply(server, pass, call)?)
     }
@@ -220,13 +220,13 @@ impl FileSlots {
         self.slots.freeze(self.at)
     }
 
-    /// The server that has it gives the move up.
+    /// The server that has it gives the move up. After want of memory nothing is promised of the file system.
     #[tactic(auto, unfolding(crate::specs::Slots::slot_at, crate::specs::Slots::slots_after, crate::specs::Tables::slot_in, crate::specs::Tables::stepped))]
-    pub fn abandon_at(&mut self) -> Abandon
-        ensures answer { result ≡ abandon_answer (slot_in self.old self.old.at) }
-        ensures after { self.new ≡ stepped self.old self.old.at (Abandoning result) }
+    pub fn abandon_at(&mut self) -> Result<Abandon, Memory>
+        ensures answer { IfOk result (λ a. a ≡ abandon_answer (slot_in self.old self.old.at)) }
+        ensures after { IfOk result (λ a. self.new ≡ stepped self.old self.old.at (Abandoning (abandon_ends (slot_in self.old self.old.at)) a)) }
     {
-        self.slots.abandon(self.at)
+        Ok(self.slots.abandon(self.at)?)
     }
 
     /// Sends the offer of a frozen state. After want of memory the file system is as it was.

@@ -146,7 +146,7 @@ impl FileSlots {
         ensures { IfOk result (λ came. came_to came self.new ≡ abandons_to head.now self.old) }
     {
         let source = self.at;
-        let answer = self.abandon_at();
+        let answer = self.abandon_at()?;
         let told = self.abandoned(head, source, answer)?;
         Ok(self.ends_in(head, told)?)
     }

@@ -1,7 +1,7 @@
 //! What each server has of a file system.
-ghost use Rattle.std.specs.Prelude.{◌≡◌, false, map, replicate, IfOk, IfSome, option_map};
+ghost use Rattle.std.specs.Prelude.{◌≡◌, [], None, false, map, replicate, IfOk, IfSome, option_map};
 ghost use Rattle.nm_rules.specs.declared.calls.Verdict.TheVariants.{Pass};
-ghost use Rattle.nm_slot.specs.Answers.{enter_answer, apply_answer, begin_answer, freeze_answer, image_answer, commit_answer, abandon_answer, accept_answer, install_answer};
+ghost use Rattle.nm_slot.specs.Answers.{enter_answer, apply_answer, begin_answer, freeze_answer, image_answer, commit_answer, abandon_answer, abandon_ends, accept_answer, install_answer, install_ends};
 ghost use Rattle.nm_slot.specs.Images.{offer_of, MayBeOffered};
 ghost use Rattle.nm_slot.specs.Shown.{table_answer};
 ghost use Rattle.nm_slot.specs.SlotNow.{phase_of, handed_over};
@@ -121,8 +121,8 @@ impl Slots {
     /// Makes a call at a server with a pass. After want of memory nothing is promised of what the servers have.
     #[tactic(auto, using(crate::proofs::SlotLemmas::of_slots, crate::proofs::SlotLemmas::apply_past))]
     pub fn apply(&mut self, server: ServerNum, pass: &FsPass, call: &Call) -> Result<Answer, Memory>
-        ensures answer { IfOk result (λ a. a ≡ apply_answer (slot_at self.old server) pass.now.epoch call.now Pass) }
-        ensures after { IfOk result (λ a. self.new ≡ slots_after self.old server (Applying pass.now.epoch call.now Pass a)) }
+        ensures answer { IfOk result (λ a. a ≡ apply_answer (slot_at self.old server) pass.now.epoch None call.now Pass) }
+        ensures after { IfOk result (λ a. self.new ≡ slots_after self.old server (Applying pass.now.epoch None call.now Pass [] a)) }
         ensures fs { self.new.fs ≡ self.old.fs }
     {
         let at = server.number() as usize;
@@ -161,17 +161,22 @@ impl Slots {
         self.list[at].freeze()
     }
 
-    /// A server gives the move up that is under way there.
+    /// A server gives the move up that is under way there. `Memory` where its state is spent.
     #[tactic(auto, using(crate::proofs::SlotLemmas::of_slots, crate::proofs::SlotLemmas::abandon_past))]
-    pub fn abandon(&mut self, server: ServerNum) -> Abandon
-        ensures answer { result ≡ abandon_answer (slot_at self.old server) }
-        ensures after { self.new ≡ slots_after self.old server (Abandoning result) }
+    pub fn abandon(&mut self, server: ServerNum) -> Result<Abandon, Memory>
+        ensures answer { IfOk result (λ a. a ≡ abandon_answer (slot_at self.old server)) }
+        ensures after { IfOk result (λ a. self.new ≡ slots_after self.old server (Abandoning (abandon_ends (slot_at self.old server)) a)) }
+        ensures fs { self.new.fs ≡ self.old.fs }
     {
         let at = server.number() as usize;
         if at >= self.list.len() {
-            return Abandon::Idle;
+            return Ok(Abandon::Idle);
         }
-        self.list[at].abandon()
+        let slot = &mut self.list[at];
+        if slot.is_spent() {
+            return Err(Memory);
+        }
+        Ok(slot.abandon())
     }
 
     /// A server hands the file system over by the move of that number. `Memory` where its state is spent.
@@ -200,7 +205,7 @@ impl Slots {
     pub fn accept(&mut self, server: ServerNum, image: &Image) -> Result<Accept, Memory>
         requires { MayBeOffered self.old.fs image.now }
         ensures answer { IfOk result (λ a. a ≡ accept_answer (slot_at self.old server) image.now.number) }
-        ensures after { IfOk result (λ a. self.new ≡ slots_after self.old server (Accepting (offer_of image.now) a)) }
+        ensures after { IfOk result (λ a. self.new ≡ slots_after self.old server (Accepting (offer_of image.now) [] a)) }
         ensures fs { self.new.fs ≡ self.old.fs }
     {
         let at = server.number() as usize;
@@ -211,14 +216,14 @@ impl Slots {
         if slot.is_spent() {
             return Err(Memory);
         }
-        Ok(slot.accept(image)?)
+        Ok(slot.accept(image, &[])?)
     }
 
     /// A server installs the offer of the move of that number, where it holds it.
     #[tactic(auto, using(crate::proofs::SlotLemmas::of_slots))]
     pub fn install(&mut self, server: ServerNum, number: MoveNum) -> Install
         ensures answer { result ≡ install_answer (slot_at self.old server) number }
-        ensures after { self.new ≡ slots_after self.old server (Installing number result) }
+        ensures after { self.new ≡ slots_after self.old server (Installing number (install_ends (slot_at self.old server)) result) }
     {
         let at = server.number() as usize;
         if at >= self.list.len() {
