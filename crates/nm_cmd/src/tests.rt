@@ -68,12 +68,12 @@ fn run(
 fn worked_scripts_print_their_texts(rt: HostRuntime) -> Result<(), Fail> {
     let alloc = rt.alloc();
     let opens = opens_by_two_clients(alloc)?;
-    let mut lock = HEAD.to_string(alloc)?;
-    lock.push_str("do C1 lock X f w 0 1 o\n")?;
-    lock.push_str(OPENS)?;
+    let mut attach = HEAD.to_string(alloc)?;
+    attach.push_str("do C1 attach S1\n")?;
+    attach.push_str(OPENS)?;
     let table = [
         (opens.as_str(), Status::Done, OPENED),
-        (lock.as_str(), Status::Script, "line 7: word\n"),
+        (attach.as_str(), Status::Script, "line 7: word\n"),
         ("", Status::Script, "line 1: head\n"),
         ("nfsmove 1\nlease 90\nserver S1\n", Status::Done, ""),
     ];
