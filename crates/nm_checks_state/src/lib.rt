@@ -6,6 +6,8 @@
 #[cfg(test)]
 mod copies;
 #[cfg(test)]
+mod eras;
+#[cfg(test)]
 mod owners;
 #[cfg(test)]
 mod ranges;

@@ -2,6 +2,7 @@
 ghost use Rattle.std.specs.Prelude.{◌≡◌, ◌≤◌, ◌^◌, IfOk};
 ghost use Rattle.nm_slot.specs.Images.{MayBeOffered};
 
+use nm_roll::LeasePass;
 use nm_rules::{
     Bytes, Call, Claim, Deed, Epoch, Fattr, FsNum, Instance, Memory, MoveNum, OpStatus, OpenArgs,
     OpenType, Principal, ServerNum, Verdict, Words,
@@ -24,7 +25,7 @@ fn x() -> Result<FsNum, Fail>
     Ok(FsNum::new(0).ok_or("0 is a file system")?)
 }
 
-fn server(number: u32) -> Result<ServerNum, Fail> {
+pub fn server(number: u32) -> Result<ServerNum, Fail> {
     Ok(ServerNum::new(number).ok_or("it is a server")?)
 }
 
@@ -54,20 +55,26 @@ fn accept(rt: &impl Abort, slot: &mut Slot, image: &Image) -> Result<Accept, Mem
     requires { MayBeOffered 0 image.now }
 {
     assert!(rt; slot.fs().number() == 0);
-    slot.accept(image)
+    slot.accept(image, &[])
 }
 
-// Hands what is on offer to another slot. `None` where nothing is.
-fn offer(rt: &impl Abort, from: &Slot, to: &mut Slot) -> Result<Option<Accept>, Memory> {
+// Hands what is on offer to another slot, with the leases of its holders there. `None` where nothing is.
+pub fn offer(
+    rt: &impl Abort,
+    from: &Slot,
+    to: &mut Slot,
+    leases: &[LeasePass],
+) -> Result<Option<Accept>, Memory> {
     assert!(rt; from.fs().number() == 0);
+    assert!(rt; to.fs().number() == 0);
     match from.image()? {
-        Some(image) => Ok(Some(accept(rt, to, &image)?)),
+        Some(image) => Ok(Some(to.accept(&image, leases)?)),
         None => Ok(None),
     }
 }
 
 #[derive(Clone, Copy)]
-enum Made {
+pub enum Made {
     Never,
     Serving,
     Closing,
@@ -77,7 +84,7 @@ enum Made {
 }
 
 // A slot at server 0 in that phase; each move is of number 1 and goes to server 1.
-fn slot_in(rt: &impl Abort, alloc: Global, made: Made) -> Result<Slot, Fail> {
+pub fn slot_in(rt: &impl Abort, alloc: Global, made: Made) -> Result<Slot, Fail> {
     match made {
         Made::Never => Ok(Slot::new(alloc, x()?, None)?),
         Made::Incoming => {
@@ -360,7 +367,7 @@ fn an_old_move_is_dead(rt: HostRuntime) -> Result<(), Fail> {
     Ok(())
 }
 
-fn client(id: &[u8]) -> Result<Instance, Fail> {
+pub fn client(id: &[u8]) -> Result<Instance, Fail> {
     let principal = Principal { flavor: 1, uid: 0 };
     Ok(
         Instance::make(id, 7, principal)
@@ -370,7 +377,7 @@ fn client(id: &[u8]) -> Result<Instance, Fail> {
 }
 
 // An OPEN of the file `f` for reading, which makes it, by the client's owner with that seqid.
-fn open(alloc: Global, caller: Instance, seqid: u32) -> Result<Call, Memory> {
+pub fn open(alloc: Global, caller: Instance, seqid: u32) -> Result<Call, Memory> {
     let args = OpenArgs {
         seqid,
         access: 1,
@@ -391,31 +398,41 @@ fn open(alloc: Global, caller: Instance, seqid: u32) -> Result<Call, Memory> {
 
 // What a call came to: its place and status, or why it wasn't made.
 #[derive(Clone, Copy, Debug, PartialEq, Eq)]
-enum Called {
+pub enum Called {
     Done(u64, OpStatus),
     Strayed(u64, u64),
     Last(u64),
-    Ended,
+    Ended(u64),
 }
 
 fn call(slot: &mut Slot, pass: &FsPass, call: &Call) -> Result<Called, Memory> {
-    Ok(match slot.apply(pass, None, call, Verdict::Pass)? {
+    call_as(slot, pass, None, call)
+}
+
+// The same in the name of a lease.
+pub fn call_as(
+    slot: &mut Slot,
+    pass: &FsPass,
+    lease: Option<&LeasePass>,
+    call: &Call,
+) -> Result<Called, Memory> {
+    Ok(match slot.apply(pass, lease, call, Verdict::Pass)? {
         Answer::Done { place, reply } => Called::Done(place, reply.status),
         Answer::Strayed {
             pass_epoch,
             slot_epoch,
         } => Called::Strayed(pass_epoch.number(), slot_epoch.number()),
         Answer::Last { count } => Called::Last(count),
-        Answer::Ended { .. } => Called::Ended,
+        Answer::Ended { era } => Called::Ended(era.number()),
     })
 }
 
-fn done(place: u64) -> Result<Called, Memory> {
+pub fn done(place: u64) -> Result<Called, Memory> {
     Ok(Called::Done(place, OpStatus::Nfs4Ok))
 }
 
 // A pass of epoch 0, which another slot of X gave.
-fn first_pass(rt: &impl Abort, alloc: Global) -> Result<FsPass, Fail> {
+pub fn first_pass(rt: &impl Abort, alloc: Global) -> Result<FsPass, Fail> {
     let mut slot = slot_in(rt, alloc, Made::Serving)?;
     enter(&mut slot)
 }
@@ -456,7 +473,7 @@ fn calls_are_made_until_the_freeze(rt: HostRuntime) -> Result<(), Fail> {
 }
 
 // A slot that is frozen for its move 1, in which B and then A have a file open.
-fn opened_and_frozen(rt: &impl Abort, alloc: Global) -> Result<Slot, Fail> {
+pub fn opened_and_frozen(rt: &impl Abort, alloc: Global) -> Result<Slot, Fail> {
     let (here, dest, pass) = (server(0)?, server(1)?, first_pass(&rt, alloc)?);
     let (a, b) = (client(b"A")?, client(b"B")?);
     let mut slot = slot_in(rt, alloc, Made::Serving)?;
@@ -483,7 +500,7 @@ fn a_commit_lists_who_holds_something(rt: HostRuntime) -> Result<(), Fail> {
 }
 
 // How many opens are held in the state that is here, or in the one on offer.
-fn rows(slot: &Slot) -> Result<Option<usize>, Memory> {
+pub fn rows(slot: &Slot) -> Result<Option<usize>, Memory> {
     match slot.table()? {
         Some(table) => Ok(Some(table.items().len())),
         None => Ok(None),
@@ -495,8 +512,8 @@ fn offered(rt: &impl Abort, alloc: Global) -> Result<Slot, Fail> {
     let source = opened_and_frozen(rt, alloc)?;
     let mut dest = slot_in(rt, alloc, Made::Never)?;
     assert_eq!(rt; rows(&dest), Ok(None));
-    assert_eq!(rt; offer(rt, &source, &mut dest), Ok(Some(Accept::Held)));
-    assert_eq!(rt; offer(rt, &source, &mut dest), Ok(Some(Accept::Held)));
+    assert_eq!(rt; offer(rt, &source, &mut dest, &[]), Ok(Some(Accept::Held)));
+    assert_eq!(rt; offer(rt, &source, &mut dest, &[]), Ok(Some(Accept::Held)));
     assert_eq!(rt; rows(&dest), Ok(Some(2)));
     Ok(dest)
 }

@@ -9,7 +9,7 @@ use Rattle.nm_script.specs.declared.script.ClientRow.{ClientRow}
 use Rattle.nm_slot.specs.declared.answers.Answer.{Answer}
 use Rattle.nm_slot.specs.declared.answers.Enter.{Enter}
 use Rattle.nm_slot.specs.declared.answers.Enter.TheVariants as enter
-use Rattle.nm_slot.specs.Answers.{enter_answer, apply_answer}
+use Rattle.nm_slot.specs.Answers.{enter_answer, apply_answer, apply_ends}
 use Rattle.nm_slot.specs.History.{passes_now, is_out}
 use Rattle.nm_slot.specs.SlotNow.{SlotView}
 use Rattle.nm_slot.specs.SlotNow.SlotStep.{Entering, Leaving, Applying}
@@ -53,6 +53,7 @@ none_out f s enter.Unknown e = rw (eq-eqb s s refl) refl
 within_by : (n : ℕ) (f : FileNow) (t : FileTables) (s epoch : ℕ) (call : Call) (a : Answer) → Stands n f t → s < n
     → is_out epoch (passes_of s f) ≡ true → a ≡ apply_answer (at_server f s) epoch None call Pass
     → Stands n (did (did f s (Applying epoch None call Pass [] a)) s (Leaving epoch)) (stepped (stepped t s (Applying epoch None call Pass [] a)) s (Leaving epoch))
+unfolding apply_ends
 within_by n f t s epoch call a stands below out e =
     let f' : FileNow = did f s (Applying epoch None call Pass [] a) in
     let t' : FileTables = stepped t s (Applying epoch None call Pass [] a) in

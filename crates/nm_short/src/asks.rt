@@ -1,5 +1,5 @@
 //! What a client does with a file system.
-ghost use Rattle.std.specs.Prelude.{◌≡◌, ◌≤◌, ◌++◌, [], length, IfOk, OnOk, map};
+ghost use Rattle.std.specs.Prelude.{◌≡◌, ◌≤◌, ◌++◌, [], length, IfOk, OnOk, map, None};
 ghost use Rattle.nm_rules.specs.Answer.{refused_value};
 ghost use Rattle.nm_rules.specs.declared.calls.Verdict.TheVariants.{Pass};
 ghost use Rattle.nm_slot.specs.Answers.{apply_answer};

@@ -1,5 +1,5 @@
 //! A file system: what each server has of it, and what its servers sent one another.
-ghost use Rattle.std.specs.Prelude.{◌≡◌, None, IfOk, OnOk, OnErr, option_map};
+ghost use Rattle.std.specs.Prelude.{◌≡◌, None, IfOk, OnOk, OnErr, option_map, []};
 ghost use Rattle.nm_rules.specs.declared.calls.Verdict.TheVariants.{Pass};
 ghost use Rattle.nm_slot.specs.Answers.{enter_answer, apply_answer, begin_answer, freeze_answer, commit_answer, abandon_answer, abandon_ends, accept_answer, install_answer};
 ghost use Rattle.nm_slot.specs.Shown.{table_answer};

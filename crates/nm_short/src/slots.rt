@@ -119,7 +119,7 @@ impl Slots {
     }
 
     /// Makes a call at a server with a pass. After want of memory nothing is promised of what the servers have.
-    #[tactic(auto, using(crate::proofs::SlotLemmas::of_slots, crate::proofs::SlotLemmas::apply_past))]
+    #[tactic(auto, using(crate::proofs::SlotLemmas::of_slots, crate::proofs::SlotLemmas::apply_past), unfolding(nm_slot::specs::Answers::apply_ends))]
     pub fn apply(&mut self, server: ServerNum, pass: &FsPass, call: &Call) -> Result<Answer, Memory>
         ensures answer { IfOk result (λ a. a ≡ apply_answer (slot_at self.old server) pass.now.epoch None call.now Pass) }
         ensures after { IfOk result (λ a. self.new ≡ slots_after self.old server (Applying pass.now.epoch None call.now Pass [] a)) }
