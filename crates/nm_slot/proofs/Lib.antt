@@ -1,5 +1,6 @@
 pub mod Agreed
 pub mod DoorLemmas
+pub mod EraLaws
 pub mod Facts
 pub mod Freezes
 pub mod HistoryFacts

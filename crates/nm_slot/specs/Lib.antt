@@ -1,6 +1,7 @@
 pub mod Answers
 pub mod Changes
 pub mod Door
+pub mod EraReadings
 pub mod Eras
 pub mod History
 pub mod Images

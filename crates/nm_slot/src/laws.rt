@@ -1,16 +1,23 @@
 //! Laws of every history of a file system: its servers' steps in any order, where what was sent may come late, more than
 //! once, or never. Each is the contract of a function that does nothing.
-ghost use Rattle.std.specs.Prelude.{◌≡◌, ◌≢◌, ◌↔◌, ℕ, true, false, List, ◌∷◌};
+ghost use Rattle.std.specs.Prelude.{◌≡◌, ◌≢◌, ◌↔◌, ℕ, true, false, List, ◌∷◌, Some};
 ghost use Rattle.nm_rules.specs.Answer.{IsLegal};
 ghost use Rattle.nm_rules.specs.Holders.{holders};
 ghost use Rattle.nm_rules.specs.Parties.{Party};
 ghost use Rattle.nm_slot.specs.Answers.{is_at_end, install_ends};
 ghost use Rattle.nm_slot.specs.SlotNow.{phase_of, SlotStep};
 ghost use Rattle.nm_slot.specs.SlotNow.HandedOver.{Committed};
-ghost use Rattle.nm_slot.specs.SlotNow.SlotStep.{Entering, Committing, Installing};
+ghost use Rattle.nm_slot.specs.SlotNow.SlotStep.{Entering, Applying, Committing, Installing};
 ghost use Rattle.nm_slot.specs.Changes.{slot_after};
 ghost use Rattle.nm_slot.specs.Door.{door_answer};
 ghost use Rattle.nm_slot.specs.History.{Home, IsHistory, slot_now, own_now, entries_now, tables_now};
+ghost use Rattle.nm_roll.specs.declared.answers.LeasePass.{LeasePass};
+ghost use Rattle.nm_rules.specs.declared.calls.Call.{Call};
+ghost use Rattle.nm_rules.specs.declared.calls.Reply.{Reply};
+ghost use Rattle.nm_rules.specs.declared.calls.Verdict.{Verdict};
+ghost use Rattle.nm_slot.specs.EraReadings.{seen_at, ended_at, IsTimely};
+ghost use Rattle.nm_slot.specs.Eras.{row_of};
+ghost use Rattle.nm_slot.specs.declared.answers.Answer.TheVariants.{Done};
 ghost use Rattle.nm_slot.specs.Laws.{IsWhole, MayMoveTo, NeverComes};
 ghost use Rattle.nm_slot.specs.Moves.{move_now};
 ghost use Rattle.nm_slot.specs.Phases.{Moment, phase_now};
@@ -78,4 +85,15 @@ pub fn a_move_gets_on()
     ensures gets_there { (home : Home) (h : List Moment) (source dest : ℕ) → IsHistory home h
         → phase_now home.first h ≡ At source → source ≢ dest
         → is_at_end (own_now home.first h source) ≡ false → MayMoveTo home h dest }
+{}
+
+/// Eras: what a slot knows of the eras of an instance is what its server's steps say, and a call in the name of a lease is carried out
+/// only where no later era of its instance was seen there and that one hasn't ended.
+pub fn calls_are_of_eras_that_stand()
+    ensures seen { (home : Home) (h : List Moment) → IsHistory home h → (s : ℕ) (party : Party)
+        → (row_of party (own_now home.first h s).eras).era ≡ seen_at home h s party }
+    ensures ended { (home : Home) (h : List Moment) → IsHistory home h → (s : ℕ) (party : Party)
+        → (row_of party (own_now home.first h s).eras).swept ≡ ended_at home h s party }
+    ensures timely { (home : Home) (h : List Moment) (s epoch place : ℕ) (lease : LeasePass) (call : Call) (verdict : Verdict) (ends : List Party) (reply : Reply)
+        → IsHistory home (record { server = s; step = Applying epoch (Some lease) call verdict ends (Done place reply) } ∷ h) → IsTimely home h s lease }
 {}
