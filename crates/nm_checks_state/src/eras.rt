@@ -53,11 +53,17 @@ fn a_call_of_an_earlier_era_comes_too_late(rt: HostRuntime) -> Result<(), Fail> 
     let (a, pass) = (client(b"A")?, first_pass(&rt, alloc)?);
     let mut slot = slot_in(&rt, alloc, Made::Serving)?;
     assert_eq!(rt; open_in(alloc, &mut slot, &pass, lease(a, 5), 1), done(1));
-    assert_eq!(rt; open_in(alloc, &mut slot, &pass, lease(a, 4), 2), too_late(5));
+    assert_eq!(rt;
+        open_in(alloc, &mut slot, &pass, lease(a, 4), 2),
+        too_late(5)
+    );
     assert_eq!(rt; open_in(alloc, &mut slot, &pass, lease(a, 5), 2), done(2));
     // The first of a later era: what it had ends, which is entry 3, and its owner begins anew.
     assert_eq!(rt; open_in(alloc, &mut slot, &pass, lease(a, 6), 9), done(4));
-    assert_eq!(rt; open_in(alloc, &mut slot, &pass, lease(a, 5), 3), too_late(6));
+    assert_eq!(rt;
+        open_in(alloc, &mut slot, &pass, lease(a, 5), 3),
+        too_late(6)
+    );
     assert_eq!(rt; rows(&slot), Ok(Some(1)));
     Ok(())
 }
@@ -74,7 +80,10 @@ fn an_era_that_was_swept_has_ended(rt: HostRuntime) -> Result<(), Fail> {
     assert_eq!(rt; sweep(&mut slot, lease(a, 5)), Ok(Swept::Ended));
     assert_eq!(rt; sweep(&mut slot, lease(a, 5)), Ok(Swept::Ended));
     assert_eq!(rt; rows(&slot), Ok(Some(0)));
-    assert_eq!(rt; open_in(alloc, &mut slot, &pass, lease(a, 5), 2), too_late(5));
+    assert_eq!(rt;
+        open_in(alloc, &mut slot, &pass, lease(a, 5), 2),
+        too_late(5)
+    );
     // The end was entry 2, and nothing is left that a later era could end.
     assert_eq!(rt; open_in(alloc, &mut slot, &pass, lease(a, 6), 1), done(3));
     Ok(())
@@ -99,7 +108,10 @@ fn an_end_waits_while_the_state_is_frozen(rt: HostRuntime) -> Result<(), Fail> {
 fn offered_with(rt: &impl Abort, alloc: Global, leases: &[LeasePass]) -> Result<Slot, Fail> {
     let source = opened_and_frozen(rt, alloc)?;
     let mut dest = slot_in(rt, alloc, Made::Never)?;
-    assert_eq!(rt; offer(rt, &source, &mut dest, leases), Ok(Some(Accept::Held)));
+    assert_eq!(rt;
+        offer(rt, &source, &mut dest, leases),
+        Ok(Some(Accept::Held))
+    );
     Ok(dest)
 }
 

@@ -25,7 +25,7 @@ fn x() -> Result<FsNum, Fail>
     Ok(FsNum::new(0).ok_or("0 is a file system")?)
 }
 
-pub fn server(number: u32) -> Result<ServerNum, Fail> {
+pub(crate) fn server(number: u32) -> Result<ServerNum, Fail> {
     Ok(ServerNum::new(number).ok_or("it is a server")?)
 }
 
@@ -59,7 +59,7 @@ fn accept(rt: &impl Abort, slot: &mut Slot, image: &Image) -> Result<Accept, Mem
 }
 
 // Hands what is on offer to another slot, with the leases of its holders there. `None` where nothing is.
-pub fn offer(
+pub(crate) fn offer(
     rt: &impl Abort,
     from: &Slot,
     to: &mut Slot,
@@ -74,7 +74,7 @@ pub fn offer(
 }
 
 #[derive(Clone, Copy)]
-pub enum Made {
+pub(crate) enum Made {
     Never,
     Serving,
     Closing,
@@ -84,7 +84,7 @@ pub enum Made {
 }
 
 // A slot at server 0 in that phase; each move is of number 1 and goes to server 1.
-pub fn slot_in(rt: &impl Abort, alloc: Global, made: Made) -> Result<Slot, Fail> {
+pub(crate) fn slot_in(rt: &impl Abort, alloc: Global, made: Made) -> Result<Slot, Fail> {
     match made {
         Made::Never => Ok(Slot::new(alloc, x()?, None)?),
         Made::Incoming => {
@@ -367,7 +367,7 @@ fn an_old_move_is_dead(rt: HostRuntime) -> Result<(), Fail> {
     Ok(())
 }
 
-pub fn client(id: &[u8]) -> Result<Instance, Fail> {
+pub(crate) fn client(id: &[u8]) -> Result<Instance, Fail> {
     let principal = Principal { flavor: 1, uid: 0 };
     Ok(
         Instance::make(id, 7, principal)
@@ -377,7 +377,7 @@ pub fn client(id: &[u8]) -> Result<Instance, Fail> {
 }
 
 // An OPEN of the file `f` for reading, which makes it, by the client's owner with that seqid.
-pub fn open(alloc: Global, caller: Instance, seqid: u32) -> Result<Call, Memory> {
+pub(crate) fn open(alloc: Global, caller: Instance, seqid: u32) -> Result<Call, Memory> {
     let args = OpenArgs {
         seqid,
         access: 1,
@@ -398,7 +398,7 @@ pub fn open(alloc: Global, caller: Instance, seqid: u32) -> Result<Call, Memory>
 
 // What a call came to: its place and status, or why it wasn't made.
 #[derive(Clone, Copy, Debug, PartialEq, Eq)]
-pub enum Called {
+pub(crate) enum Called {
     Done(u64, OpStatus),
     Strayed(u64, u64),
     Last(u64),
@@ -410,7 +410,7 @@ fn call(slot: &mut Slot, pass: &FsPass, call: &Call) -> Result<Called, Memory> {
 }
 
 // The same in the name of a lease.
-pub fn call_as(
+pub(crate) fn call_as(
     slot: &mut Slot,
     pass: &FsPass,
     lease: Option<&LeasePass>,
@@ -427,12 +427,12 @@ pub fn call_as(
     })
 }
 
-pub fn done(place: u64) -> Result<Called, Memory> {
+pub(crate) fn done(place: u64) -> Result<Called, Memory> {
     Ok(Called::Done(place, OpStatus::Nfs4Ok))
 }
 
 // A pass of epoch 0, which another slot of X gave.
-pub fn first_pass(rt: &impl Abort, alloc: Global) -> Result<FsPass, Fail> {
+pub(crate) fn first_pass(rt: &impl Abort, alloc: Global) -> Result<FsPass, Fail> {
     let mut slot = slot_in(rt, alloc, Made::Serving)?;
     enter(&mut slot)
 }
@@ -473,7 +473,7 @@ fn calls_are_made_until_the_freeze(rt: HostRuntime) -> Result<(), Fail> {
 }
 
 // A slot that is frozen for its move 1, in which B and then A have a file open.
-pub fn opened_and_frozen(rt: &impl Abort, alloc: Global) -> Result<Slot, Fail> {
+pub(crate) fn opened_and_frozen(rt: &impl Abort, alloc: Global) -> Result<Slot, Fail> {
     let (here, dest, pass) = (server(0)?, server(1)?, first_pass(&rt, alloc)?);
     let (a, b) = (client(b"A")?, client(b"B")?);
     let mut slot = slot_in(rt, alloc, Made::Serving)?;
@@ -500,7 +500,7 @@ fn a_commit_lists_who_holds_something(rt: HostRuntime) -> Result<(), Fail> {
 }
 
 // How many opens are held in the state that is here, or in the one on offer.
-pub fn rows(slot: &Slot) -> Result<Option<usize>, Memory> {
+pub(crate) fn rows(slot: &Slot) -> Result<Option<usize>, Memory> {
     match slot.table()? {
         Some(table) => Ok(Some(table.items().len())),
         None => Ok(None),

@@ -392,8 +392,8 @@ call_is_timely home h s epoch place lease call verdict ends reply it =
     let swept : Option ℕ = (row_of lease.instance own.eras).swept in
     let late = in_time epoch place lease call verdict reply own (column (phase_now home.first h) (tables_now home h) s) it.0.answered.0 in
     let both = timely lease.era seen swept (nat_lt lease.era seen) (lease.era == seen) refl refl late
-        (λ e is. subst (λ k. e ≤ k) (sym (eras_are_read home h it.1 s lease.instance))
-        (ended_is_seen home h s lease.instance e (sym (ends_are_read home h it.1 s lease.instance) ∙ is))) in
+    (λ e is. subst (λ k. e ≤ k) (sym (eras_are_read home h it.1 s lease.instance))
+    (ended_is_seen home h s lease.instance e (sym (ends_are_read home h it.1 s lease.instance) ∙ is))) in
     record {
       latest = subst (λ k. k ≤ lease.era) (eras_are_read home h it.1 s lease.instance) both.0;
       stands = λ e. both.1 (ends_are_read home h it.1 s lease.instance ∙ e);

@@ -122,12 +122,11 @@ is_answer p t s epoch place lease call verdict reply own (Here (Closes dest numb
 legal_after : (p : Phase) (fs : ℕ) (grants : Bool) (entries : Past) (s : ℕ) (own : Own) (step : SlotStep)
     → IsAnswered (record { fs = fs; stage = column p (seen fs grants entries) s; own = own }) step → IsLegal fs grants entries → IsLegal fs grants (with_entry step entries)
 unfolding apply_answer apply_ends
-legal_after p fs grants entries s own (Applying epoch lease call verdict ends (answer.Done place reply)) a legal =
-    (
-      is_answer p (seen fs grants entries) s epoch place lease call verdict reply own (column p (seen fs grants entries) s) refl a.0
+legal_after p fs grants entries s own (Applying epoch lease call verdict ends (answer.Done place reply)) a legal = (
+  is_answer p (seen fs grants entries) s epoch place lease call verdict reply own (column p (seen fs grants entries) s) refl a.0
       ∙ ap (λ x. answer_to x (Asked call verdict)) (ap (λ es. after_ends es (seen fs grants entries)) (sym a.1) ∙ sym (seen_ends fs grants ends entries)),
-      ends_legal fs grants ends entries legal,
-    )
+  ends_legal fs grants ends entries legal,
+)
 legal_after p fs grants entries s own (Sweeping party era ends sweep.Ended) a legal = ends_legal fs grants ends entries legal
 legal_after p fs grants entries s own (Abandoning ends (abandon.Back number)) a legal = ends_legal fs grants ends entries legal
 legal_after p fs grants entries s own (Installing number ends install.Now) a legal = ends_legal fs grants ends entries legal

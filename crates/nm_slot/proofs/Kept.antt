@@ -144,14 +144,14 @@ module _ {p : Phase} {begins : ℕ} {move : ℕ → Move} {own : ℕ → Own} {t
       let it = is_source p t s (Closes dest number) state e in
       let now : Facts (Closing s dest number) begins move own t = known_phase it.phase facts in
       let same : n ≡ number = cc in
-      from_source s (Abandoning ends (abandon.Back n)) it.phase refl 
+      from_source s (Abandoning ends (abandon.Back n)) it.phase refl
       (called_at (given_up t n (same ∙ now.offers.latest) now.agreed) after s (λ r. record (own r) { count = (own r).count + length ends })
       (record { held = refl; known = refl; installed = refl }))
   back_kept after ends n (Here (Froze dest number) state) e a =
       let it = is_source p t s (Froze dest number) state e in
       let now : Facts (Frozen s dest number) begins move own t = known_phase it.phase facts in
       let same : n ≡ number = cc in
-      from_source s (Abandoning ends (abandon.Back n)) it.phase refl 
+      from_source s (Abandoning ends (abandon.Back n)) it.phase refl
       (called_at (given_up t n (same ∙ now.offers.latest) now.agreed) after s (λ r. record (own r) { count = (own r).count + length ends })
       (record { held = refl; known = refl; installed = refl }))
 

@@ -7,16 +7,15 @@ use Rattle.nm_slot.proofs.StateLemmas.{kept_with, staged_wider, serving_count, l
 use Rattle.nm_slot.proofs.slot.Slot.end_late.Goals as goal
 
 pub invariant_of-self : goal.invariant_of-self
-invariant_of-self c =
-    (
-      kept_with _ _ _ _ _ _ _ _ _ _ _ c.self.invariant.0
+invariant_of-self c = (
+  kept_with _ _ _ _ _ _ _ _ _ _ _ c.self.invariant.0
       (staged_wider _ _ _ _ _ (omega (arith, c.clear.ensures.capacity, c.end_late-due.ensures.capacity, ap (λ v. v.cap) c.replace-room.ensures.value))
       (c.end_late-due.ensures.kept _ _ _ c.self.invariant.0.stage))
       (c.clear.ensures.items ∙ sym c.self.invariant.0.empty)
       (rw (c.end_late-due.ensures.count (c.self.inside.count + c.len.result))
       (serving_count c.self.inside.stage (c.self.inside.count + c.len.result) (ap (λ (s : SlotNow). is_serving s.view.stage) c.self.view_is ∙ c.requires.serving))),
-      c.self.invariant.1,
-    )
+  c.self.invariant.1,
+)
 
 pub returns-clause-after : goal.returns-clause-after
 unfolding abandon_ends

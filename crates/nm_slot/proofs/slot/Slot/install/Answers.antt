@@ -12,8 +12,7 @@ returns-in-Some-clause-spent c =
 
 pub invariant_of-self : goal.invariant_of-self
 invariant_of-self c =
-    let took = took_some c.args.number c.self.inside.stage c.in-Some.image _ c.in-Some.ensures in
-    (
+    let took = took_some c.args.number c.self.inside.stage c.in-Some.image _ c.in-Some.ensures in (
       record {
         stage = installed_staged c.self.inside.fs (vec_capacity c.self.inside.room) _ c.in-Some.image c.end_brought-ended.new.state
             (ends_brought c.deref.result.now c.deref-in-Some.result.now c.in-Some.image.state.seen)
