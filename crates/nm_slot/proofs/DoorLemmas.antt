@@ -1,15 +1,14 @@
 -- What stops a call.
-use Rattle.std.proofs.Common.{◌≡◌, ◌≢◌, ◌<◌, ◌^◌, ℕ, Bool, true, false, refl, List, Option, Some, None, arith}
+use Rattle.std.proofs.Common.{◌≡◌, ◌<◌, ◌^◌, ℕ, Bool, true, false, refl, Option, Some, None}
 use Rattle.std.specs.Prelude.{◌-◌, ◌==◌, not}
-use Rattle.std.proofs.lemmas.Bool.Decides.{nat_tests}
 use Rattle.nm_roll.specs.declared.answers.LeasePass.{LeasePass}
 use Rattle.nm_slot.specs.declared.answers.Answer.{Answer}
 use Rattle.nm_slot.specs.declared.answers.Answer.TheVariants as answer
-use Rattle.nm_slot.specs.Answers.{called, is_full, ends_before}
+use Rattle.nm_slot.specs.Answers.{is_full, ends_before}
 use Rattle.nm_slot.specs.Changes.{slot_after}
 use Rattle.nm_slot.specs.Eras.{is_late, era_seen}
-use Rattle.nm_slot.specs.Kept.{IsStop, IsStopped, Stops, Goes}
-use Rattle.nm_slot.specs.SlotNow.{Stage, Doing, Own}
+use Rattle.nm_slot.specs.Kept.{IsStop, IsStopped, Goes}
+use Rattle.nm_slot.specs.SlotNow.{Doing, Own}
 use Rattle.nm_slot.specs.SlotNow.Doing.{Serves, Closes, Froze}
 use Rattle.nm_slot.specs.SlotNow.Stage.{Here}
 use Rattle.nm_rules.specs.Seen.{Seen}

@@ -1,5 +1,5 @@
 -- What a slot knows of eras is what the steps so far say, and a call that is carried out is timely.
-use Rattle.std.proofs.Common.{◌≡◌, ◌≢◌, ◌≤◌, ◌<◌, ℕ, Bool, true, false, cond, List, [], ◌∷◌, ◌++◌, Option, Some, None, refl, sym, subst, ap, ◌∙◌, arith, eqb-true, eq-eqb}
+use Rattle.std.proofs.Common.{◌≡◌, ◌≢◌, ◌≤◌, ℕ, Bool, true, false, cond, List, [], ◌∷◌, ◌++◌, Option, Some, None, refl, sym, subst, ap, ◌∙◌, arith, eqb-true}
 use Rattle.std.specs.Prelude.{◌==◌, ◌&&◌, ◌||◌, not, nat_lt, nat_le, max, find, filter}
 use Rattle.std.proofs.lemmas.Bool.Decides.{nat_tests}
 use Rattle.nm_roll.specs.declared.answers.LeasePass.{LeasePass}
@@ -27,7 +27,7 @@ use Rattle.nm_slot.specs.SlotNow.Stage.{Away, Here}
 use Rattle.nm_slot.specs.SlotNow.HandedOver.{Committed}
 use Rattle.nm_slot.specs.SlotNow.SlotStep.{Entering, Applying, Sweeping, Beginning, Committing, Abandoning, Accepting, Installing, Withdrawing}
 use Rattle.nm_slot.specs.declared.eras.EraRow.{EraRow}
-use Rattle.nm_slot.specs.Eras.{is_of, unseen, row_found, row_of, put_row, noted, marked, noted_lease, noted_all, later_era, greatest_era, era_in, comes_late, has_ended, is_swept_at, era_seen}
+use Rattle.nm_slot.specs.Eras.{is_of, row_found, row_of, put_row, noted, marked, noted_lease, noted_all, greatest_era, era_in, comes_late, has_ended, is_swept_at, era_seen}
 use Rattle.nm_slot.specs.EraReadings.{greater_if, seen_by, seen_with, seen_at, ended_if, ended_with, ended_at, IsTimely}
 
 -- ---- a row that is put

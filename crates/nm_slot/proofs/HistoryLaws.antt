@@ -1,6 +1,6 @@
 -- The laws of every history, from the facts.
 use Rattle.std.proofs.Common.{◌≡◌, ◌↔◌, ℕ, Bool, true, false, cond, List, [], ◌∷◌, refl, sym, subst, ap, ◌∙◌, Option, Some, None, eq-eqb}
-use Rattle.std.specs.Prelude.{◌+◌, ◌-◌, ◌==◌, ◌^◌, not, nat_le}
+use Rattle.std.specs.Prelude.{◌==◌, ◌^◌, not, nat_le}
 use Rattle.nm_rules.specs.Answer.{IsLegal, answer_to}
 use Rattle.nm_roll.specs.declared.answers.LeasePass.{LeasePass}
 use Rattle.nm_rules.specs.Parties.{Party}

@@ -1,6 +1,6 @@
 -- What stays true of the state that a slot has.
 use Rattle.std.proofs.Common.{Bool, true, false, cond, ◌≡◌, ◌≤◌, ◌+◌, ◌^◌, ℕ, refl, ap, arith, length, List, [], ◌∷◌, sym, inr, subst, Ok, Option, Some, None, ◌∙◌}
-use Rattle.std.specs.Prelude.{◌-◌, not, filter}
+use Rattle.std.specs.Prelude.{not, filter}
 use Rattle.nm_rules.specs.Answer.{answer_to}
 use Rattle.nm_rules.specs.Past.{words}
 use Rattle.nm_rules.specs.Seqids.{owners_after}

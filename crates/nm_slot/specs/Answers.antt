@@ -1,5 +1,5 @@
 -- What each call on a file system at a server answers, by what the server has of it.
-use Rattle.std.specs.Prelude.{◌==◌, ◌||◌, ◌&&◌, not, nat_le, nat_lt, ℕ, ◌+◌, ◌-◌, ◌^◌, Bool, true, false, List, [], length, Option, Some, None, Result, Ok, Err, if◌then◌else◌}
+use Rattle.std.specs.Prelude.{◌==◌, ◌||◌, ◌&&◌, not, nat_le, nat_lt, ℕ, ◌+◌, ◌-◌, ◌^◌, Bool, true, false, List, [], length, Option, Some, None, Result, Err, if◌then◌else◌}
 use Rattle.nm_roll.specs.declared.answers.LeasePass.{LeasePass}
 use Rattle.nm_rules.specs.Answer.{answer_to}
 use Rattle.nm_rules.specs.Holders.{holders, has_row}

@@ -2,33 +2,27 @@
 use Rattle.std.specs.Prelude.{ℕ, ◌+◌, ◌-◌, ◌==◌, Bool, true, false, List, [], length, Option, Some, None, max, if◌then◌else◌}
 use Rattle.nm_roll.specs.declared.answers.LeasePass.{LeasePass}
 use Rattle.nm_rules.specs.Parties.{Party}
-use Rattle.nm_rules.specs.Seen.{Seen, after}
+use Rattle.nm_rules.specs.Seen.{after}
 use Rattle.nm_rules.specs.declared.calls.Event.{Event}
 use Rattle.nm_rules.specs.declared.calls.Event.TheVariants.{Asked}
 use Rattle.nm_rules.specs.declared.calls.Reply.{Reply}
 use Rattle.nm_slot.specs.declared.answers.Abandon.{Abandon}
 use Rattle.nm_slot.specs.declared.answers.Abandon.TheVariants as abandon
-use Rattle.nm_slot.specs.declared.answers.Accept.{Accept}
 use Rattle.nm_slot.specs.declared.answers.Accept.TheVariants as accept
-use Rattle.nm_slot.specs.declared.answers.Answer.{Answer}
 use Rattle.nm_slot.specs.declared.answers.Answer.TheVariants as answer
-use Rattle.nm_slot.specs.declared.answers.Begin.{Begin}
 use Rattle.nm_slot.specs.declared.answers.Begin.TheVariants as begin
-use Rattle.nm_slot.specs.declared.answers.Enter.{Enter}
 use Rattle.nm_slot.specs.declared.answers.Enter.TheVariants as enter
-use Rattle.nm_slot.specs.declared.answers.Freeze.{Freeze}
 use Rattle.nm_slot.specs.declared.answers.Freeze.TheVariants as freeze
-use Rattle.nm_slot.specs.declared.answers.Install.{Install}
 use Rattle.nm_slot.specs.declared.answers.Install.TheVariants as install
 use Rattle.nm_slot.specs.declared.answers.Swept.{Swept}
 use Rattle.nm_slot.specs.declared.answers.Swept.TheVariants as sweep
 use Rattle.nm_slot.specs.Answers.{is_past}
 use Rattle.nm_slot.specs.Eras.{after_ends, noted_lease, noted_all, marked}
-use Rattle.nm_slot.specs.SlotNow.{Doing, Stage, Offer, Left, Own, SlotView, HandedOver, SlotStep}
+use Rattle.nm_slot.specs.SlotNow.{Doing, Stage, Offer, Own, SlotView, SlotStep}
 use Rattle.nm_slot.specs.SlotNow.Doing.{Serves, Closes, Froze}
 use Rattle.nm_slot.specs.SlotNow.Stage.{Away, Here}
-use Rattle.nm_slot.specs.SlotNow.HandedOver.{Committed, Again, Dead}
-use Rattle.nm_slot.specs.SlotNow.SlotStep.{Entering, Leaving, Applying, Sweeping, Beginning, Freezing, Imaging, Committing, Abandoning, Accepting, Installing, Withdrawing}
+use Rattle.nm_slot.specs.SlotNow.HandedOver.{Committed}
+use Rattle.nm_slot.specs.SlotNow.SlotStep.{Entering, Leaving, Applying, Sweeping, Beginning, Freezing, Committing, Abandoning, Accepting, Installing, Withdrawing}
 
 -- ---- the state, and what is done with it
 

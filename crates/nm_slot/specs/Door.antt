@@ -1,11 +1,11 @@
 -- What the door of a file system answers at a server, by the one phase.
-use Rattle.std.specs.Prelude.{◌≡◌, ◌==◌, nat_le, ℕ, ◌^◌, Option, Some, None, if◌then◌else◌}
+use Rattle.std.specs.Prelude.{◌==◌, nat_le, ℕ, ◌^◌, if◌then◌else◌}
 use Rattle.nm_slot.specs.declared.answers.Enter.{Enter}
 use Rattle.nm_slot.specs.declared.answers.Enter.TheVariants as enter
 use Rattle.nm_slot.specs.Answers.{turned_away}
 use Rattle.nm_slot.specs.Phases.{Phase}
 use Rattle.nm_slot.specs.Phases.Phase.{At, Closing, Frozen, Passing}
-use Rattle.nm_slot.specs.SlotNow.{Offer, Left, Own}
+use Rattle.nm_slot.specs.SlotNow.{Own}
 
 -- One may enter where the file system is served, up to 2^63 at a time. Where it closes or is frozen one is told to come
 -- again, and so where an offer is held. Elsewhere one is told where it went, and where it never was that it isn't known.

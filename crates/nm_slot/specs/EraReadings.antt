@@ -1,5 +1,5 @@
 -- In which eras a server has seen an instance in a file system, read off the steps so far, the newest first.
-use Rattle.std.specs.Prelude.{◌≢◌, ◌≤◌, ◌==◌, ◌&&◌, not, max, ℕ, Bool, true, false, List, [], ◌∷◌, Option, Some, None, if◌then◌else◌}
+use Rattle.std.specs.Prelude.{◌≢◌, ◌≤◌, ◌==◌, ◌&&◌, not, max, ℕ, Bool, List, [], ◌∷◌, Option, Some, None, if◌then◌else◌}
 use Rattle.nm_roll.specs.declared.answers.LeasePass.{LeasePass}
 use Rattle.nm_rules.specs.Parties.{Party, same_party}
 use Rattle.nm_slot.specs.declared.answers.Answer.TheVariants as answer
@@ -10,7 +10,7 @@ use Rattle.nm_slot.specs.Eras.{era_in}
 use Rattle.nm_slot.specs.History.{Home, own_now}
 use Rattle.nm_slot.specs.Phases.{Moment}
 use Rattle.nm_slot.specs.SlotNow.{Own, SlotStep}
-use Rattle.nm_slot.specs.SlotNow.SlotStep.{Entering, Leaving, Applying, Sweeping, Beginning, Freezing, Imaging, Committing, Abandoning, Accepting, Installing, Withdrawing}
+use Rattle.nm_slot.specs.SlotNow.SlotStep.{Applying, Sweeping, Installing}
 
 abbrev pub greater_if : Bool → ℕ → ℕ → ℕ
 greater_if its era before = if its then max before era else before

@@ -1,6 +1,6 @@
 -- What may happen to a file system: its servers' steps in any order, each answered by what its server has, where only
 -- what was sent is ever delivered, late or often or never.
-use Rattle.std.specs.Prelude.{◌≡◌, ◌==◌, ℕ, Bool, true, List, [], ◌∷◌, Option, Some, None, if◌then◌else◌}
+use Rattle.std.specs.Prelude.{◌≡◌, ◌==◌, ℕ, Bool, true, List, [], ◌∷◌, Some, if◌then◌else◌}
 use Rattle.std.specs.List.{list_any}
 use Rattle.nm_rules.specs.Answer.{reply_with}
 use Rattle.nm_rules.specs.Past.{Past}
@@ -18,7 +18,7 @@ use Rattle.nm_slot.specs.declared.answers.Install.TheVariants as install
 use Rattle.nm_slot.specs.declared.answers.Swept.TheVariants as sweep
 use Rattle.nm_slot.specs.Answers.{enter_answer, apply_answer, apply_ends, sweep_answer, sweep_ends, abandon_ends, install_ends, begin_answer, freeze_answer, image_answer, commit_answer, abandon_answer, accept_answer, install_answer, withdraw_answer}
 use Rattle.nm_slot.specs.Changes.{own_after}
-use Rattle.nm_slot.specs.Moves.{Move, Fate, move_now, is_handed}
+use Rattle.nm_slot.specs.Moves.{Move, move_now, is_handed}
 use Rattle.nm_slot.specs.Moves.Fate.{GivenUp}
 use Rattle.nm_slot.specs.Phases.{Phase, Moment, phase_now, column}
 use Rattle.nm_slot.specs.Phases.Phase.{At, Closing, Frozen, Passing}

@@ -14,7 +14,6 @@ use Rattle.nm_state.specs.State.{StateNow}
 use Rattle.nm_slot.specs.declared.answers.Abandon.{Abandon}
 use Rattle.nm_slot.specs.declared.answers.Abandon.TheVariants as abandon
 use Rattle.nm_slot.specs.declared.answers.Answer.{Answer}
-use Rattle.nm_slot.specs.declared.answers.Answer.TheVariants as answer
 use Rattle.nm_slot.specs.declared.answers.Begin.{Begin}
 use Rattle.nm_slot.specs.declared.answers.Begin.TheVariants as begin
 use Rattle.nm_slot.specs.declared.answers.Swept.{Swept}
@@ -25,7 +24,7 @@ use Rattle.nm_slot.specs.declared.stage.Doing.TheVariants as kept_doing
 use Rattle.nm_slot.specs.declared.stage.Stage.{Stage as KeptStage}
 use Rattle.nm_slot.specs.declared.stage.Stage.TheVariants as kept_stage
 use Rattle.nm_slot.specs.Images.{offer_of, MayBeOffered}
-use Rattle.nm_slot.specs.Answers.{is_offer_of, committed, committed_away, applied, called, done_after, has_here, ends_before}
+use Rattle.nm_slot.specs.Answers.{is_offer_of, committed, committed_away, applied, called, done_after, ends_before}
 use Rattle.nm_slot.specs.Changes.{dest_at, slot_after, stage_called, stage_ended}
 use Rattle.nm_slot.specs.Eras.{noted_lease}
 use Rattle.nm_slot.specs.SlotNow.{Doing, Stage, Offer, Own, SlotView, SlotNow, HandedOver, nothing_yet, phase_of}

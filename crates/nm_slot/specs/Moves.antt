@@ -7,7 +7,7 @@ use Rattle.nm_slot.specs.declared.answers.Install.TheVariants as install
 use Rattle.nm_slot.specs.Phases.{Moment}
 use Rattle.nm_slot.specs.SlotNow.{Offer, SlotStep}
 use Rattle.nm_slot.specs.SlotNow.HandedOver.{Committed, Again}
-use Rattle.nm_slot.specs.SlotNow.SlotStep.{Entering, Leaving, Applying, Sweeping, Beginning, Freezing, Imaging, Committing, Abandoning, Accepting, Installing, Withdrawing}
+use Rattle.nm_slot.specs.SlotNow.SlotStep.{Beginning, Imaging, Committing, Abandoning, Accepting, Installing}
 
 -- How far a move has come.
 pub data Fate : Type 0 where

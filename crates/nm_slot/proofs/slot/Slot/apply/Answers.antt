@@ -1,4 +1,4 @@
-use Rattle.std.proofs.Common.{◌≡◌, sym, ap, ◌∙◌}
+use Rattle.std.proofs.Common.{sym, ap, ◌∙◌}
 use Rattle.std.specs.Prelude.{option_copied}
 use Rattle.nm_slot.specs.Answers.{apply_ends}
 use Rattle.nm_slot.specs.SlotNow.{SlotNow}

@@ -1,4 +1,4 @@
-use Rattle.std.proofs.Common.{◌≡◌, ◌≤◌, ◌^◌, refl, ap, arith}
+use Rattle.std.proofs.Common.{◌≡◌, refl, ap, arith}
 use Rattle.nm_slot.specs.SlotNow.{SlotNow}
 use Rattle.nm_slot.proofs.StateLemmas.{kept_with, begins_numbered, carried_count}
 use Rattle.nm_slot.proofs.slot.Slot.begin.Goals as goal

@@ -1,4 +1,4 @@
-use Rattle.std.proofs.Common.{◌≡◌, ◌≤◌, ◌+◌, ◌^◌, arith, ap}
+use Rattle.std.proofs.Common.{◌≡◌, ◌+◌, arith, ap}
 use Rattle.nm_slot.specs.SlotNow.{SlotNow}
 use Rattle.nm_slot.proofs.StateLemmas.{kept_with, carried_count}
 use Rattle.nm_slot.proofs.slot.Slot.carry_out.Goals as goal

@@ -1,4 +1,4 @@
-use Rattle.std.proofs.Common.{◌≡◌, ◌+◌, ℕ, length, false, ap, sym, ◌∙◌, arith}
+use Rattle.std.proofs.Common.{◌≡◌, ◌+◌, false, ap, sym, ◌∙◌, arith}
 use Rattle.nm_slot.specs.Kept.{stage_of, held_of, spent_of, is_serving}
 use Rattle.nm_slot.specs.Answers.{ends_abandoned, abandon_ends}
 use Rattle.nm_slot.specs.Changes.{stage_ended}

@@ -1,4 +1,4 @@
-use Rattle.std.proofs.Common.{ap, sym, ◌∙◌}
+use Rattle.std.proofs.Common.{ap, ◌∙◌}
 use Rattle.std.specs.Prelude.{filter}
 use Rattle.nm_slot.specs.Eras.{has_ended, row_of}
 use Rattle.nm_slot.specs.Kept.{stage_of}
