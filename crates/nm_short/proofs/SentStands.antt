@@ -16,7 +16,7 @@ use Rattle.nm_slot.specs.Moves.Fate.{GivenUp, Handed, Done}
 use Rattle.nm_slot.specs.Phases.{Phase, column}
 use Rattle.nm_slot.specs.SlotNow.{Offer, Left, Own, SlotStep}
 use Rattle.nm_slot.specs.SlotNow.HandedOver.{Committed, Again, Dead}
-use Rattle.nm_slot.specs.SlotNow.SlotStep.{Entering, Leaving, Applying, Beginning, Freezing, Imaging, Committing, Abandoning, Accepting, Installing, Withdrawing}
+use Rattle.nm_slot.specs.SlotNow.SlotStep.{Entering, Leaving, Applying, Sweeping, Beginning, Freezing, Imaging, Committing, Abandoning, Accepting, Installing, Withdrawing}
 use Rattle.nm_slot.proofs.Facts.{Facts, new_move}
 use Rattle.nm_short.proofs.StepWords.{BeganThere, IsSent, slot_by, own_next, move_next}
 use Rattle.nm_short.proofs.AnswersSay.{begun_new, offered_at, again_at}
