@@ -1,10 +1,11 @@
 -- What an operator has done with a file system is the same over its tables as over its steps.
-use Rattle.std.proofs.Common.{◌≡◌, ◌<◌, ℕ, [], ◌∷◌, refl, sym, subst, ap, ◌∙◌, arith}
+use Rattle.std.proofs.Common.{◌≡◌, ◌<◌, ℕ, [], ◌∷◌, refl, sym, subst, ap, ◌∙◌, arith, List}
 use Rattle.nm_script.specs.declared.report.MoveTold.{MoveTold}
 use Rattle.nm_script.specs.declared.script.Head.{Head}
 use Rattle.nm_slot.specs.declared.answers.Abandon.{Abandon}
 use Rattle.nm_slot.specs.declared.answers.Begin.{Begin}
 use Rattle.nm_slot.specs.declared.answers.Begin.TheVariants as begin
+use Rattle.nm_rules.specs.Parties.{Party}
 use Rattle.nm_slot.specs.Answers.{begin_answer, abandon_answer, abandon_ends}
 use Rattle.nm_slot.specs.SlotNow.{SlotStep}
 use Rattle.nm_slot.specs.SlotNow.SlotStep.{Beginning, Abandoning}
