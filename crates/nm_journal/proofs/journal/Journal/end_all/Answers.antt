@@ -1,4 +1,4 @@
-use Rattle.std.proofs.Common.{◌≡◌, ◌≤◌, ◌+◌, ℕ, length, ap, sym, subst, ◌∙◌, arith, take, map}
+use Rattle.std.proofs.Common.{◌≤◌, ◌+◌, ℕ, length, ap, sym, subst, ◌∙◌, arith, take, map}
 use Rattle.std.specs.Prelude.{min}
 use Rattle.nm_journal.specs.Journals.{JournalNow, after_entries, end_of}
 use Rattle.nm_journal.proofs.JournalLemmas.{ends_kept, ends_longer}

@@ -1,6 +1,6 @@
-use Rattle.std.proofs.Common.{◌≡◌, ◌-◌, ap, sym, ◌∙◌, arith, drop, take}
+use Rattle.std.proofs.Common.{◌≡◌, ◌-◌, ap, ◌∙◌, drop}
 use Rattle.nm_state.specs.State.{StateNow}
-use Rattle.nm_journal.specs.Journals.{AreAnswered, JournalNow, after_entries}
+use Rattle.nm_journal.specs.Journals.{JournalNow}
 use Rattle.nm_journal.proofs.JournalLemmas.{answered_rest, shorter}
 use Rattle.nm_journal.proofs.journal.Journal.make_room.Goals as goal
 
