@@ -1,12 +1,5 @@
-/* Prints how the codec of libnfs encodes the results that the tests of nm_results read: a line NAME: BYTES for each. */
-#include <stdio.h>
-#include <stdlib.h>
-#include <string.h>
-#include <sys/time.h>
-#include <nfsc/libnfs-zdr.h>
-#include <nfsc/libnfs.h>
-#include <nfsc/libnfs-raw.h>
-#include <nfsc/libnfs-raw-nfs4.h>
+/* Results of compounds: a line `let NAME.result HEX`, and a line `results @NAME.result`. */
+#include "vectors.h"
 
 static nfs_resop4 op(u_int number, nfsstat4 status)
 {
@@ -18,9 +11,164 @@ static nfs_resop4 op(u_int number, nfsstat4 status)
     return r;
 }
 
-static void print(const char *name, nfs_resop4 *ops, u_int count, nfsstat4 status)
+#define U r->nfs_resop4_u
+
+static const char *status_word(nfsstat4 status)
 {
-    static char bytes[65536];
+    switch (status) {
+    case NFS4_OK: return "Nfs4Ok";
+    case NFS4ERR_NOENT: return "NoEnt";
+    case NFS4ERR_NOTSUPP: return "NotSupp";
+    case NFS4ERR_DENIED: return "Denied";
+    case NFS4ERR_CLID_INUSE: return "ClidInUse";
+    case NFS4ERR_OP_ILLEGAL: return "OpIllegal";
+    default: return "another status";
+    }
+}
+
+static void told_state(const char *name, stateid4 s)
+{
+    told("%s(", name);
+    told_stateid(s);
+    told(")");
+}
+
+/* Whether it is atomic is passed over. */
+static void told_change(change_info4 c)
+{
+    told("ChangeInfo { before: %llu, after: %llu }", (unsigned long long)c.before, (unsigned long long)c.after);
+}
+
+static void told_denied(LOCK4denied *d)
+{
+    told("Denied(LockDenied { offset: %llu, length: %llu, kind: %s, clientid: %llu, owner: ", (unsigned long long)d->offset,
+        (unsigned long long)d->length, d->locktype == READ_LT || d->locktype == READW_LT ? "Read" : "Write",
+        (unsigned long long)d->owner.clientid);
+    told_bytes(d->owner.owner.owner_len, d->owner.owner.owner_val);
+    told(" })");
+}
+
+/* Of a delegation its stateid alone is kept. */
+static void told_open(OPEN4resok *o)
+{
+    told("Open(OpenOk { stateid: ");
+    told_stateid(o->stateid);
+    told(", cinfo: ");
+    told_change(o->cinfo);
+    told(", rflags: %u, attrset: ", o->rflags);
+    told_bitmap(o->attrset);
+    told(", delegation: ");
+    if (o->delegation.delegation_type == OPEN_DELEGATE_READ)
+        told_state("Read", o->delegation.open_delegation4_u.read.stateid);
+    else if (o->delegation.delegation_type == OPEN_DELEGATE_WRITE)
+        told_state("Write", o->delegation.open_delegation4_u.write.stateid);
+    else
+        told("None");
+    told(" })");
+}
+
+static void told_dir(READDIR4resok *d)
+{
+    told("ReadDir(ReadDirOk { cookieverf: %llu, entries: Items { items: [", number(d->cookieverf, 8));
+    for (entry4 *e = d->reply.entries; e; e = e->nextentry) {
+        told("DirEntry { cookie: %llu, name: ", (unsigned long long)e->cookie);
+        told_text(e->name);
+        told(", attrs: ");
+        told_fattr(e->attrs);
+        told(e->nextentry ? " }, " : " }");
+    }
+    told("] }, eof: %s })", d->reply.eof ? "true" : "false");
+}
+
+static void told_ok(nfs_resop4 *r)
+{
+    switch (r->resop) {
+    case OP_ACCESS:
+        told("Access(AccessOk { supported: %u, access: %u })", U.opaccess.ACCESS4res_u.resok4.supported,
+            U.opaccess.ACCESS4res_u.resok4.access);
+        break;
+    case OP_CLOSE: told_state("Close", U.opclose.CLOSE4res_u.open_stateid); break;
+    case OP_COMMIT: told("Commit(%llu)", number(U.opcommit.COMMIT4res_u.resok4.writeverf, 8)); break;
+    case OP_CREATE:
+        told("Create(CreateOk { cinfo: ");
+        told_change(U.opcreate.CREATE4res_u.resok4.cinfo);
+        told(", attrset: ");
+        told_bitmap(U.opcreate.CREATE4res_u.resok4.attrset);
+        told(" })");
+        break;
+    case OP_GETATTR:
+        told("GetAttr(");
+        told_fattr(U.opgetattr.GETATTR4res_u.resok4.obj_attributes);
+        told(")");
+        break;
+    case OP_GETFH:
+        told("GetFh(");
+        told_bytes(U.opgetfh.GETFH4res_u.resok4.object.nfs_fh4_len, U.opgetfh.GETFH4res_u.resok4.object.nfs_fh4_val);
+        told(")");
+        break;
+    case OP_LOCK: told_state("Lock", U.oplock.LOCK4res_u.resok4.lock_stateid); break;
+    case OP_LOCKU: told_state("LockU", U.oplocku.LOCKU4res_u.lock_stateid); break;
+    case OP_OPEN: told_open(&U.opopen.OPEN4res_u.resok4); break;
+    case OP_OPEN_CONFIRM: told_state("OpenConfirm", U.opopen_confirm.OPEN_CONFIRM4res_u.resok4.open_stateid); break;
+    case OP_OPEN_DOWNGRADE: told_state("OpenDowngrade", U.opopen_downgrade.OPEN_DOWNGRADE4res_u.resok4.open_stateid); break;
+    case OP_READ:
+        told("Read(ReadOk { eof: %s, data: ", U.opread.READ4res_u.resok4.eof ? "true" : "false");
+        told_bytes(U.opread.READ4res_u.resok4.data.data_len, U.opread.READ4res_u.resok4.data.data_val);
+        told(" })");
+        break;
+    case OP_READDIR: told_dir(&U.opreaddir.READDIR4res_u.resok4); break;
+    case OP_REMOVE:
+        told("Remove(");
+        told_change(U.opremove.REMOVE4res_u.resok4.cinfo);
+        told(")");
+        break;
+    case OP_SETCLIENTID:
+        told("SetClientId(SetClientIdOk { clientid: %llu, confirm: %llu })",
+            (unsigned long long)U.opsetclientid.SETCLIENTID4res_u.resok4.clientid,
+            number(U.opsetclientid.SETCLIENTID4res_u.resok4.setclientid_confirm, 8));
+        break;
+    case OP_WRITE:
+        told("Write(WriteOk { count: %u, committed: %u, writeverf: %llu })", U.opwrite.WRITE4res_u.resok4.count,
+            U.opwrite.WRITE4res_u.resok4.committed, number(U.opwrite.WRITE4res_u.resok4.writeverf, 8));
+        break;
+    default: told("Nothing");
+    }
+}
+
+static void told_in_use(clientaddr4 *a)
+{
+    told("ClientInUse(ClientAddress { netid: ");
+    told_bytes(strlen(a->r_netid), a->r_netid);
+    told(", addr: ");
+    told_bytes(strlen(a->r_addr), a->r_addr);
+    told(" })");
+}
+
+static void told_result(nfs_resop4 *r)
+{
+    nfsstat4 status = U.opillegal.status;
+    told(" %u %s ", r->resop, status_word(status));
+    if (r->resop == OP_SETATTR) {
+        told("SetAttr(");
+        told_bitmap(U.opsetattr.attrsset);
+        told(")");
+    } else if (status == NFS4_OK) {
+        told_ok(r);
+    } else if (status == NFS4ERR_DENIED) {
+        told_denied(r->resop == OP_LOCK ? &U.oplock.LOCK4res_u.denied : &U.oplockt.LOCKT4res_u.denied);
+    } else if (status == NFS4ERR_CLID_INUSE) {
+        told_in_use(&U.opsetclientid.SETCLIENTID4res_u.client_using);
+    } else {
+        told("Nothing");
+    }
+}
+#undef U
+
+static char bytes[65536];
+
+/* How many bytes these results are. */
+static int encode(const char *name, nfs_resop4 *ops, u_int count, nfsstat4 status)
+{
     ZDR zdr;
     COMPOUND4res res;
     memset(&res, 0, sizeof res);
@@ -34,15 +182,23 @@ static void print(const char *name, nfs_resop4 *ops, u_int count, nfsstat4 statu
         fprintf(stderr, "%s isn't encoded\n", name);
         exit(1);
     }
-    printf("%s:", name);
-    for (int i = 0; i < zdr.pos; i++)
-        printf("%s%d", i ? ", " : " ", (unsigned char)bytes[i]);
-    printf("\n");
+    return zdr.pos;
+}
+
+static void print(const char *name, nfs_resop4 *ops, u_int count, nfsstat4 status)
+{
+    char full[64];
+    snprintf(full, sizeof full, "%s.result", name);
+    name_bytes(full, bytes, encode(name, ops, count, status));
+    line("results @%s\n", full);
+    told("%s tag 746167", status_word(status));
+    for (u_int i = 0; i < count; i++) told_result(&ops[i]);
 }
 
 static void print_one(const char *name, nfs_resop4 r)
 {
     print(name, &r, 1, r.nfs_resop4_u.opillegal.status);
+    told(" same\n");
 }
 
 static stateid4 stateid(u_int seqid)
@@ -91,8 +247,18 @@ static nfs_resop4 dir_of(entry4 *entries, int eof)
     return r;
 }
 
-int main(void)
+/* What is written of results is other bytes: those of another result. */
+static void told_again(const char *name, nfs_resop4 r)
 {
+    int size = encode(name, &r, 1, r.nfs_resop4_u.opillegal.status);
+    told(" writes ");
+    for (int i = 0; i < size; i++) told("%02x", (unsigned char)bytes[i]);
+    told("\n");
+}
+
+int main(int argc, char **argv)
+{
+    begin(argc, argv);
     nfs_resop4 r;
     nfs_resop4 each[40];
     open_delegation4 d;
@@ -105,19 +271,19 @@ int main(void)
     print_one("ACCESS", r);
     r = op(4, NFS4_OK);
     r.nfs_resop4_u.opclose.CLOSE4res_u.open_stateid = stateid(2);
-    print_one("STATEID", r);
+    print_one("CLOSE", r);
     r = op(12, NFS4_OK);
     r.nfs_resop4_u.oplock.LOCK4res_u.resok4.lock_stateid = stateid(2);
-    print_one("STATEID", r);
+    print_one("LOCK", r);
     r = op(14, NFS4_OK);
     r.nfs_resop4_u.oplocku.LOCKU4res_u.lock_stateid = stateid(2);
-    print_one("STATEID", r);
+    print_one("LOCKU", r);
     r = op(20, NFS4_OK);
     r.nfs_resop4_u.opopen_confirm.OPEN_CONFIRM4res_u.resok4.open_stateid = stateid(2);
-    print_one("STATEID", r);
+    print_one("OPEN_CONFIRM", r);
     r = op(21, NFS4_OK);
     r.nfs_resop4_u.opopen_downgrade.OPEN_DOWNGRADE4res_u.resok4.open_stateid = stateid(2);
-    print_one("STATEID", r);
+    print_one("OPEN_DOWNGRADE", r);
     r = op(5, NFS4_OK);
     memcpy(r.nfs_resop4_u.opcommit.COMMIT4res_u.resok4.writeverf, "abcdefgh", 8);
     print_one("COMMIT", r);
@@ -151,6 +317,7 @@ int main(void)
     d.open_delegation4_u.write.space_limit.limitby = NFS_LIMIT_SIZE;
     d.open_delegation4_u.write.space_limit.nfs_space_limit4_u.filesize = 1048576;
     print_one("OPEN_WRITE", open_of(d));
+    open_delegation4 written = d;
     /* what is passed over in reading */
     d.open_delegation4_u.write.recall = 1;
     d.open_delegation4_u.write.space_limit.nfs_space_limit4_u.filesize = 9;
@@ -161,7 +328,8 @@ int main(void)
     d.open_delegation4_u.write.permissions.who.utf8string_val = "OWNER";
     r = open_of(d);
     r.nfs_resop4_u.opopen.OPEN4res_u.resok4.cinfo.atomic = 0;
-    print_one("OPEN_OTHER", r);
+    print("OPEN_OTHER", &r, 1, NFS4_OK);
+    told_again("OPEN_WRITE", open_of(written));
 
     r = op(25, NFS4_OK);
     r.nfs_resop4_u.opread.READ4res_u.resok4.eof = 1;
@@ -203,6 +371,7 @@ int main(void)
     for (int i = 0; i < 12; i++)
         each[i] = op(plain[i], NFS4_OK);
     print("PLAIN", each, 12, NFS4_OK);
+    told(" same\n");
     u_int count = 0;
     /* libnfs has no SECINFO */
     for (u_int n = 3; n < 40; n++)
@@ -210,5 +379,6 @@ int main(void)
             each[count++] = op(n, NFS4ERR_NOTSUPP);
     each[count++] = op(10044, NFS4ERR_OP_ILLEGAL);
     print("FAILED", each, count, NFS4ERR_OP_ILLEGAL);
+    told(" same\n");
     return 0;
 }

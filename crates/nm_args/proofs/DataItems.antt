@@ -5,21 +5,21 @@ use Rattle.nm_xdr.specs.Fields.{made, IsBytes, IsItem}
 use Rattle.nm_xdr.specs.Items.{word, opaque, enum_at}
 use Rattle.nm_xdr.proofs.FieldLaws.{field_part, made_part, record_item, fits_as, spelled_as, union_item, same_value}
 use Rattle.nm_xdr.proofs.ItemLaws.{word_item, hyper_item, opaque_item, enum_item}
-use Rattle.nm_rules.specs.declared.args.AccessArgs.{AccessArgs}
-use Rattle.nm_rules.specs.declared.args.CommitArgs.{CommitArgs}
-use Rattle.nm_rules.specs.declared.args.DelegReturnArgs.{DelegReturnArgs}
-use Rattle.nm_rules.specs.declared.args.GetAttrArgs.{GetAttrArgs}
-use Rattle.nm_rules.specs.declared.args.ReadArgs.{ReadArgs}
-use Rattle.nm_rules.specs.declared.args.SetAttrArgs.{SetAttrArgs}
-use Rattle.nm_rules.specs.declared.args.WriteArgs.{WriteArgs}
-use Rattle.nm_rules.specs.declared.args.Device.{Device}
-use Rattle.nm_rules.specs.declared.args.CreateType.{CreateType}
-use Rattle.nm_rules.specs.declared.args.CreateType.TheVariants.{File, Directory, Block, Character, Link, Socket, Fifo, AttributeDirectory, NamedAttribute}
-use Rattle.nm_rules.specs.declared.args.CreateArgs.{CreateArgs}
-use Rattle.nm_rules.specs.declared.args.LookupArgs.{LookupArgs}
-use Rattle.nm_rules.specs.declared.args.ReadDirArgs.{ReadDirArgs}
-use Rattle.nm_rules.specs.declared.args.RemoveArgs.{RemoveArgs}
-use Rattle.nm_rules.specs.Wire.{stateid_bytes}
+use Rattle.nm_types.specs.declared.args.AccessArgs.{AccessArgs}
+use Rattle.nm_types.specs.declared.args.CommitArgs.{CommitArgs}
+use Rattle.nm_types.specs.declared.args.DelegReturnArgs.{DelegReturnArgs}
+use Rattle.nm_types.specs.declared.args.GetAttrArgs.{GetAttrArgs}
+use Rattle.nm_types.specs.declared.args.ReadArgs.{ReadArgs}
+use Rattle.nm_types.specs.declared.args.SetAttrArgs.{SetAttrArgs}
+use Rattle.nm_types.specs.declared.args.WriteArgs.{WriteArgs}
+use Rattle.nm_types.specs.declared.args.Device.{Device}
+use Rattle.nm_types.specs.declared.args.CreateType.{CreateType}
+use Rattle.nm_types.specs.declared.args.CreateType.TheVariants.{File, Directory, Block, Character, Link, Socket, Fifo, AttributeDirectory, NamedAttribute}
+use Rattle.nm_types.specs.declared.args.CreateArgs.{CreateArgs}
+use Rattle.nm_types.specs.declared.args.LookupArgs.{LookupArgs}
+use Rattle.nm_types.specs.declared.args.ReadDirArgs.{ReadDirArgs}
+use Rattle.nm_types.specs.declared.args.RemoveArgs.{RemoveArgs}
+use Rattle.nm_types.specs.Wire.{stateid_bytes}
 use Rattle.nm_attrs.specs.Bitmaps.{bitmap, IsBitmap}
 use Rattle.nm_attrs.proofs.ValueLaws.{bitmap_item}
 use Rattle.nm_attrs.proofs.MadeLaws.{made_found, made_again}

@@ -3,9 +3,9 @@ use Rattle.std.proofs.Common.{◌≡◌, ℕ, Bool, true, false, List, ◌++◌,
 use Rattle.nm_xdr.specs.Fields.{IsBytes, IsItem}
 use Rattle.nm_xdr.proofs.FieldLaws.{field_part, made_part, record_item, fits_as, union_item}
 use Rattle.nm_xdr.proofs.ItemLaws.{word_item, hyper_item, flag_item}
-use Rattle.nm_rules.specs.declared.args.Locker.{Locker}
-use Rattle.nm_rules.specs.declared.args.Locker.TheVariants.{New, Known}
-use Rattle.nm_rules.specs.declared.args.UnlockArgs.{UnlockArgs}
+use Rattle.nm_types.specs.declared.args.Locker.{Locker}
+use Rattle.nm_types.specs.declared.args.Locker.TheVariants.{New, Known}
+use Rattle.nm_types.specs.declared.args.UnlockArgs.{UnlockArgs}
 use Rattle.nm_attrs.proofs.MadeLaws.{made_found, made_again}
 use Rattle.nm_args.specs.declared.op.OwnedLocker.{OwnedLocker}
 use Rattle.nm_args.specs.declared.op.OwnedLock.{OwnedLock}

@@ -5,15 +5,15 @@ use Rattle.nm_xdr.specs.Fields.{field, made, IsBytes, IsItem}
 use Rattle.nm_xdr.specs.Items.{word, opaque, enum_at}
 use Rattle.nm_xdr.proofs.FieldLaws.{field_part, made_part, record_item, fits_as, spelled_as, union_item, same_value}
 use Rattle.nm_xdr.proofs.ItemLaws.{word_item, hyper_item, enum_item}
-use Rattle.nm_rules.specs.declared.calls.StateRef.{StateRef}
-use Rattle.nm_rules.specs.declared.args.CloseArgs.{CloseArgs}
-use Rattle.nm_rules.specs.declared.args.OpenType.{OpenType}
-use Rattle.nm_rules.specs.declared.args.OpenType.TheVariants.{NoCreate, Unchecked, Guarded, Exclusive}
-use Rattle.nm_rules.specs.declared.args.Claim.{Claim}
-use Rattle.nm_rules.specs.declared.args.Claim.TheVariants.{Null, Previous, DelegateCur, DelegatePrev}
-use Rattle.nm_rules.specs.declared.args.OpenConfirmArgs.{OpenConfirmArgs}
-use Rattle.nm_rules.specs.declared.args.OpenDowngradeArgs.{OpenDowngradeArgs}
-use Rattle.nm_rules.specs.Wire.{stateid_bytes}
+use Rattle.nm_types.specs.declared.calls.StateRef.{StateRef}
+use Rattle.nm_types.specs.declared.args.CloseArgs.{CloseArgs}
+use Rattle.nm_types.specs.declared.args.OpenType.{OpenType}
+use Rattle.nm_types.specs.declared.args.OpenType.TheVariants.{NoCreate, Unchecked, Guarded, Exclusive}
+use Rattle.nm_types.specs.declared.args.Claim.{Claim}
+use Rattle.nm_types.specs.declared.args.Claim.TheVariants.{Null, Previous, DelegateCur, DelegatePrev}
+use Rattle.nm_types.specs.declared.args.OpenConfirmArgs.{OpenConfirmArgs}
+use Rattle.nm_types.specs.declared.args.OpenDowngradeArgs.{OpenDowngradeArgs}
+use Rattle.nm_types.specs.Wire.{stateid_bytes}
 use Rattle.nm_attrs.proofs.MadeLaws.{made_found, made_again}
 use Rattle.nm_args.specs.declared.op.OwnedOpen.{OwnedOpen}
 use Rattle.nm_args.specs.Parts.{IsName, IsStateRef}

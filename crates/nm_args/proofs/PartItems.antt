@@ -8,16 +8,16 @@ use Rattle.nm_xdr.specs.Fields.{Fault, ◌>>=◌, field, made, IsBytes, IsItem}
 use Rattle.nm_xdr.specs.Items.{word, hyper, padding_of, fixed, opaque, word_at, fixed_at}
 use Rattle.nm_xdr.proofs.FieldLaws.{field_part, made_part, record_item, fits_as, bind_ok, same_value, IsBytes-behind}
 use Rattle.nm_xdr.proofs.ItemLaws.{word_item, fixed_item, opaque_item, enum_item}
-use Rattle.nm_rules.specs.declared.calls.StateId.{StateId}
-use Rattle.nm_rules.specs.declared.calls.StateRef.{StateRef}
-use Rattle.nm_rules.specs.declared.calls.StateRef.TheVariants.{Zeros, Ones, Named}
-use Rattle.nm_rules.specs.declared.args.Fattr.{Fattr}
-use Rattle.nm_rules.specs.declared.args.LockType.{LockType}
-use Rattle.nm_rules.specs.declared.args.LockType.TheVariants as lock
-use Rattle.nm_rules.specs.declared.args.Stable.{Stable}
-use Rattle.nm_rules.specs.declared.args.Stable.TheVariants as stable
-use Rattle.nm_rules.specs.Wire.{word as rule_word, hyper as rule_hyper, word_in, hyper_in, other_bytes, is_zeros, is_ones, stateid_bytes, stateid_of}
-use Rattle.nm_rules.proofs.WireLaws.{stateid_written}
+use Rattle.nm_types.specs.declared.calls.StateId.{StateId}
+use Rattle.nm_types.specs.declared.calls.StateRef.{StateRef}
+use Rattle.nm_types.specs.declared.calls.StateRef.TheVariants.{Zeros, Ones, Named}
+use Rattle.nm_types.specs.declared.args.Fattr.{Fattr}
+use Rattle.nm_types.specs.declared.args.LockType.{LockType}
+use Rattle.nm_types.specs.declared.args.LockType.TheVariants as lock
+use Rattle.nm_types.specs.declared.args.Stable.{Stable}
+use Rattle.nm_types.specs.declared.args.Stable.TheVariants as stable
+use Rattle.nm_types.specs.Wire.{word as rule_word, hyper as rule_hyper, word_in, hyper_in, other_bytes, is_zeros, is_ones, stateid_bytes, stateid_of}
+use Rattle.nm_types.proofs.WireLaws.{stateid_written}
 use Rattle.nm_attrs.proofs.ValueLaws.{bitmap_item}
 use Rattle.nm_args.specs.Parts.{IsWord, IsHyper, name_at, IsName, text_at, IsText, stateid_at, IsNamed, IsStateRef, fattr, fattr_at, AreAttributes, lock_number, lock_of, lock_type_at, stable_number, stable_of, stable_at}
 

@@ -6,9 +6,9 @@ use Rattle.std.proofs.lemmas.List.{length-take}
 use Rattle.nm_xdr.specs.Fields.{short, Fault}
 use Rattle.nm_xdr.specs.Items.{padding_of, fixed, fixed_at, padded_at}
 use Rattle.nm_xdr.proofs.FieldLaws.{same_value}
-use Rattle.nm_rules.specs.declared.calls.StateRef.{StateRef}
-use Rattle.nm_rules.specs.declared.calls.StateRef.TheVariants.{Zeros, Ones, Named}
-use Rattle.nm_rules.specs.Wire.{word, hyper, stateid_bytes}
+use Rattle.nm_types.specs.declared.calls.StateRef.{StateRef}
+use Rattle.nm_types.specs.declared.calls.StateRef.TheVariants.{Zeros, Ones, Named}
+use Rattle.nm_types.specs.Wire.{word, hyper, stateid_bytes}
 
 padded_found : (n : ℕ) (bytes : List ℕ) (o : Option ℕ) (x rest : List ℕ) → padded_at n bytes o ≡ Ok (x, rest) → take n bytes ≡ x
 padded_found n bytes None x rest e = (same_value (take n bytes) x (drop (n + padding_of n) bytes) rest e).0

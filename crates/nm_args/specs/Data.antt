@@ -2,14 +2,14 @@
 use Rattle.std.specs.Prelude.{ℕ, ◌≤◌, List, [], ◌∷◌, length}
 use Rattle.nm_xdr.specs.Fields.{Reading, field, made}
 use Rattle.nm_xdr.specs.Items.{word, hyper, opaque, structure, word_at, hyper_at, opaque_at}
-use Rattle.nm_rules.specs.declared.args.AccessArgs.{AccessArgs}
-use Rattle.nm_rules.specs.declared.args.CommitArgs.{CommitArgs}
-use Rattle.nm_rules.specs.declared.args.DelegReturnArgs.{DelegReturnArgs}
-use Rattle.nm_rules.specs.declared.args.GetAttrArgs.{GetAttrArgs}
-use Rattle.nm_rules.specs.declared.args.ReadArgs.{ReadArgs}
-use Rattle.nm_rules.specs.declared.args.SetAttrArgs.{SetAttrArgs}
-use Rattle.nm_rules.specs.declared.args.WriteArgs.{WriteArgs}
-use Rattle.nm_rules.specs.Wire.{stateid_bytes}
+use Rattle.nm_types.specs.declared.args.AccessArgs.{AccessArgs}
+use Rattle.nm_types.specs.declared.args.CommitArgs.{CommitArgs}
+use Rattle.nm_types.specs.declared.args.DelegReturnArgs.{DelegReturnArgs}
+use Rattle.nm_types.specs.declared.args.GetAttrArgs.{GetAttrArgs}
+use Rattle.nm_types.specs.declared.args.ReadArgs.{ReadArgs}
+use Rattle.nm_types.specs.declared.args.SetAttrArgs.{SetAttrArgs}
+use Rattle.nm_types.specs.declared.args.WriteArgs.{WriteArgs}
+use Rattle.nm_types.specs.Wire.{stateid_bytes}
 use Rattle.nm_attrs.specs.Bitmaps.{bitmap, bitmap_at}
 use Rattle.nm_args.specs.Parts.{IsWord, IsHyper, stateid_at, IsStateRef, fattr, fattr_at, AreAttributes, stable_number, stable_at}
 

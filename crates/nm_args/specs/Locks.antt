@@ -2,11 +2,11 @@
 use Rattle.std.specs.Prelude.{◌≡◌, ℕ, Bool, true, false, List, [], ◌∷◌}
 use Rattle.nm_xdr.specs.Fields.{Reading, field, made}
 use Rattle.nm_xdr.specs.Items.{word, hyper, flag, opaque, structure, union, word_at, hyper_at, flag_at}
-use Rattle.nm_rules.specs.declared.calls.StateRef.{StateRef}
-use Rattle.nm_rules.specs.declared.args.Locker.{Locker}
-use Rattle.nm_rules.specs.declared.args.Locker.TheVariants.{New, Known}
-use Rattle.nm_rules.specs.declared.args.UnlockArgs.{UnlockArgs}
-use Rattle.nm_rules.specs.Wire.{stateid_bytes}
+use Rattle.nm_types.specs.declared.calls.StateRef.{StateRef}
+use Rattle.nm_types.specs.declared.args.Locker.{Locker}
+use Rattle.nm_types.specs.declared.args.Locker.TheVariants.{New, Known}
+use Rattle.nm_types.specs.declared.args.UnlockArgs.{UnlockArgs}
+use Rattle.nm_types.specs.Wire.{stateid_bytes}
 use Rattle.nm_args.specs.declared.op.OwnedLocker.{OwnedLocker}
 use Rattle.nm_args.specs.declared.op.OwnedLock.{OwnedLock}
 use Rattle.nm_args.specs.declared.op.OwnedLockTest.{OwnedLockTest}

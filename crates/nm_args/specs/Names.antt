@@ -2,13 +2,13 @@
 use Rattle.std.specs.Prelude.{ℕ, ◌==◌, List, [], ◌∷◌, find, Option}
 use Rattle.nm_xdr.specs.Fields.{Reading, field, made}
 use Rattle.nm_xdr.specs.Items.{word, hyper, opaque, structure, union, word_at, hyper_at, enum_at}
-use Rattle.nm_rules.specs.declared.args.Device.{Device}
-use Rattle.nm_rules.specs.declared.args.CreateType.{CreateType}
-use Rattle.nm_rules.specs.declared.args.CreateType.TheVariants.{File, Directory, Block, Character, Link, Socket, Fifo, AttributeDirectory, NamedAttribute}
-use Rattle.nm_rules.specs.declared.args.CreateArgs.{CreateArgs}
-use Rattle.nm_rules.specs.declared.args.LookupArgs.{LookupArgs}
-use Rattle.nm_rules.specs.declared.args.ReadDirArgs.{ReadDirArgs}
-use Rattle.nm_rules.specs.declared.args.RemoveArgs.{RemoveArgs}
+use Rattle.nm_types.specs.declared.args.Device.{Device}
+use Rattle.nm_types.specs.declared.args.CreateType.{CreateType}
+use Rattle.nm_types.specs.declared.args.CreateType.TheVariants.{File, Directory, Block, Character, Link, Socket, Fifo, AttributeDirectory, NamedAttribute}
+use Rattle.nm_types.specs.declared.args.CreateArgs.{CreateArgs}
+use Rattle.nm_types.specs.declared.args.LookupArgs.{LookupArgs}
+use Rattle.nm_types.specs.declared.args.ReadDirArgs.{ReadDirArgs}
+use Rattle.nm_types.specs.declared.args.RemoveArgs.{RemoveArgs}
 use Rattle.nm_attrs.specs.Bitmaps.{bitmap, bitmap_at, IsBitmap}
 use Rattle.nm_args.specs.declared.op.RenameArgs.{RenameArgs}
 use Rattle.nm_args.specs.Parts.{IsWord, IsHyper, name_at, IsName, fattr, fattr_at, AreAttributes}

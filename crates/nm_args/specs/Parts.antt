@@ -2,15 +2,15 @@
 use Rattle.std.specs.Prelude.{◌≡◌, ℕ, ◌^◌, ◌<◌, ◌≤◌, false, ◌==◌, List, [], ◌∷◌, length, find, Option}
 use Rattle.nm_xdr.specs.Fields.{Reading, field, made}
 use Rattle.nm_xdr.specs.Items.{opaque, structure, word_at, fixed_at, opaque_at, enum_at}
-use Rattle.nm_rules.specs.declared.calls.StateId.{StateId}
-use Rattle.nm_rules.specs.declared.calls.StateRef.{StateRef}
-use Rattle.nm_rules.specs.declared.calls.StateRef.TheVariants.{Zeros, Ones, Named}
-use Rattle.nm_rules.specs.declared.args.Fattr.{Fattr}
-use Rattle.nm_rules.specs.declared.args.LockType.{LockType}
-use Rattle.nm_rules.specs.declared.args.LockType.TheVariants as lock
-use Rattle.nm_rules.specs.declared.args.Stable.{Stable}
-use Rattle.nm_rules.specs.declared.args.Stable.TheVariants as stable
-use Rattle.nm_rules.specs.Wire.{stateid_of, is_zeros, is_ones}
+use Rattle.nm_types.specs.declared.calls.StateId.{StateId}
+use Rattle.nm_types.specs.declared.calls.StateRef.{StateRef}
+use Rattle.nm_types.specs.declared.calls.StateRef.TheVariants.{Zeros, Ones, Named}
+use Rattle.nm_types.specs.declared.args.Fattr.{Fattr}
+use Rattle.nm_types.specs.declared.args.LockType.{LockType}
+use Rattle.nm_types.specs.declared.args.LockType.TheVariants as lock
+use Rattle.nm_types.specs.declared.args.Stable.{Stable}
+use Rattle.nm_types.specs.declared.args.Stable.TheVariants as stable
+use Rattle.nm_types.specs.Wire.{stateid_of, is_zeros, is_ones}
 use Rattle.nm_attrs.specs.Bitmaps.{bitmap, bitmap_at, IsBitmap}
 
 -- ---- Numbers and texts

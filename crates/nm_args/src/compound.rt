@@ -4,10 +4,10 @@ ghost use Rattle.std.specs.Prelude.{◌≡◌};
 use crate::Ops;
 use crate::reading::place_of_fault;
 use nm_attrs::ReadFault;
-use nm_rules::{Bytes, Memory};
+use nm_types::{Bytes, Memory};
 
 /// The arguments of a COMPOUND (RFC 7530, 15.2).
-#[derive(Debug, Drop)]
+#[derive(Drop)]
 pub struct Compound {
     /// The client's tag, of at most 1,024 bytes.
     pub tag: Bytes,
@@ -20,7 +20,7 @@ pub struct Compound {
 }
 
 /// How the operations of a COMPOUND end.
-#[derive(Clone, Copy, Debug, PartialEq, Eq)]
+#[derive(Clone, Copy, Debug)]
 pub enum CompoundEnd {
     /// All are read, and nothing follows them.
     Clean,
@@ -44,7 +44,7 @@ pub enum CompoundEnd {
 }
 
 /// Why bytes aren't the arguments of a COMPOUND.
-#[derive(Clone, Copy, Debug, PartialEq, Eq)]
+#[derive(Clone, Copy, Debug)]
 pub enum ArgsFault {
     /// The tag, the minor version, the count or an operation's number can't be read, or bytes follow the last operation.
     GarbageAt {

@@ -10,7 +10,7 @@ use crate::parts::{
     take_words,
 };
 use nm_attrs::{ReadFault, put_bitmap};
-use nm_rules::{
+use nm_types::{
     AccessArgs, CommitArgs, DelegReturnArgs, GetAttrArgs, ReadArgs, SetAttrArgs, WriteArgs,
 };
 use nm_xdr::{Cursor, Memory, Writer};

@@ -2,7 +2,7 @@
 ghost use Rattle.std.specs.Prelude.{ℕ, List, ◌≡◌, Ok};
 ghost use Rattle.nm_xdr.specs.Fields.{IsBytes, IsItem};
 ghost use Rattle.nm_xdr.specs.Places.{IsExact};
-ghost use Rattle.nm_rules.specs.Wire.{stateid_bytes};
+ghost use Rattle.nm_types.specs.Wire.{stateid_bytes};
 ghost use Rattle.nm_args.specs.declared.compound.Compound.{Compound as AnyCompound};
 ghost use Rattle.nm_args.specs.declared.compound.CompoundEnd.TheVariants.{Clean};
 ghost use Rattle.nm_args.specs.declared.op.OpCode.{OpCode as AnyCode};

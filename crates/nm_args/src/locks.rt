@@ -6,7 +6,7 @@ ghost use Rattle.nm_args.specs.Locks.{locker, locker_arm, locker_arm_at, locker_
 use crate::parts::{put_lock_type, put_stateid, take_lock_type, take_stateid, take_text};
 use crate::{OwnedLock, OwnedLockTest, OwnedLocker, OwnedRelease};
 use nm_attrs::ReadFault;
-use nm_rules::{LockArgs, LockTestArgs, Locker, ReleaseLockOwnerArgs, UnlockArgs};
+use nm_types::{LockArgs, LockTestArgs, Locker, ReleaseLockOwnerArgs, UnlockArgs};
 use nm_xdr::{Cursor, Memory, Writer};
 use std::alloc::Global;
 

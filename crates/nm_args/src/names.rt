@@ -7,7 +7,7 @@ ghost use Rattle.nm_args.specs.Names.{device, device_at, create_type, create_typ
 use crate::RenameArgs;
 use crate::parts::{put_fattr, take_fattr, take_name, take_words};
 use nm_attrs::{ReadFault, put_bitmap};
-use nm_rules::{CreateArgs, CreateType, Device, LookupArgs, ReadDirArgs, RemoveArgs};
+use nm_types::{CreateArgs, CreateType, Device, LookupArgs, ReadDirArgs, RemoveArgs};
 use nm_xdr::{Cursor, Memory, Writer, XdrFault};
 use std::alloc::Global;
 

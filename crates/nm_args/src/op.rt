@@ -2,7 +2,7 @@
 ghost use Rattle.std.specs.Prelude.{◌≡◌};
 ghost use Rattle.nm_args.specs.Operations.{number_of, code_of_number, code_of};
 
-use nm_rules::{
+use nm_types::{
     AccessArgs, Bytes, CloseArgs, CommitArgs, CreateArgs, DelegReturnArgs, Fattr, GetAttrArgs,
     Items, LockArgs, LockTestArgs, Locker, LookupArgs, OpenArgs, OpenConfirmArgs,
     OpenDowngradeArgs, ReadArgs, ReadDirArgs, ReleaseLockOwnerArgs, RemoveArgs, SetAttrArgs,
@@ -10,49 +10,49 @@ use nm_rules::{
 };
 
 /// OPEN's arguments, and the clientid of its owner.
-#[derive(Debug, PartialEq, Eq, Drop)]
+#[derive(Debug, Drop)]
 pub struct OwnedOpen {
     pub clientid: u64,
     pub args: OpenArgs,
 }
 
 /// LOCK's arguments, and the clientid of its owner where it is new, else 0.
-#[derive(Debug, PartialEq, Eq, Drop)]
+#[derive(Debug, Drop)]
 pub struct OwnedLock {
     pub clientid: u64,
     pub args: LockArgs,
 }
 
 /// Who locks, and the clientid where the owner is new, else 0.
-#[derive(Debug, PartialEq, Eq, Drop)]
+#[derive(Debug, Drop)]
 pub struct OwnedLocker {
     pub clientid: u64,
     pub locker: Locker,
 }
 
 /// LOCKT's arguments, and the clientid of its owner.
-#[derive(Debug, PartialEq, Eq, Drop)]
+#[derive(Debug, Drop)]
 pub struct OwnedLockTest {
     pub clientid: u64,
     pub args: LockTestArgs,
 }
 
 /// RELEASE_LOCKOWNER's arguments, and the clientid of its owner.
-#[derive(Debug, PartialEq, Eq, Drop)]
+#[derive(Debug, Drop)]
 pub struct OwnedRelease {
     pub clientid: u64,
     pub args: ReleaseLockOwnerArgs,
 }
 
 /// The arguments of RENAME (RFC 7530, 16.27): the old name in the saved directory, and the new one in the current.
-#[derive(Debug, PartialEq, Eq, Drop)]
+#[derive(Debug, Drop)]
 pub struct RenameArgs {
     pub from: Bytes,
     pub to: Bytes,
 }
 
 /// The arguments of SETCLIENTID (RFC 7530, 16.33).
-#[derive(Debug, PartialEq, Eq, Drop)]
+#[derive(Debug, Drop)]
 pub struct SetClientIdArgs {
     /// The verifier of this start of the client, its 8 bytes as a number.
     pub verifier: u64,
@@ -69,7 +69,7 @@ pub struct SetClientIdArgs {
 }
 
 /// The arguments of SETCLIENTID_CONFIRM (RFC 7530, 16.34).
-#[derive(Clone, Copy, Debug, PartialEq, Eq)]
+#[derive(Clone, Copy, Debug)]
 pub struct SetClientIdConfirmArgs {
     pub clientid: u64,
     /// The verifier that SETCLIENTID answered, its 8 bytes as a number.
@@ -77,7 +77,7 @@ pub struct SetClientIdConfirmArgs {
 }
 
 /// An operation with its arguments.
-#[derive(Debug, Drop)]
+#[derive(Debug)]
 pub enum Op {
     /// ACCESS.
     Access(AccessArgs),
@@ -155,11 +155,55 @@ pub enum Op {
     ReleaseLockOwner(OwnedRelease),
 }
 
+impl Drop for Op {
+    fn drop(self) {
+        match self {
+            Op::Access(_) => {}
+            Op::Close(_) => {}
+            Op::Commit(_) => {}
+            Op::Create(_) => {}
+            Op::DelegPurge(_) => {}
+            Op::DelegReturn(_) => {}
+            Op::GetAttr(_) => {}
+            Op::GetFh => {}
+            Op::Link(_) => {}
+            Op::Lock(_) => {}
+            Op::LockT(_) => {}
+            Op::LockU(_) => {}
+            Op::Lookup(_) => {}
+            Op::LookupP => {}
+            Op::NVerify(_) => {}
+            Op::Open(_) => {}
+            Op::OpenAttr(_) => {}
+            Op::OpenConfirm(_) => {}
+            Op::OpenDowngrade(_) => {}
+            Op::PutFh(_) => {}
+            Op::PutPubFh => {}
+            Op::PutRootFh => {}
+            Op::Read(_) => {}
+            Op::ReadDir(_) => {}
+            Op::ReadLink => {}
+            Op::Remove(_) => {}
+            Op::Rename(_) => {}
+            Op::Renew(_) => {}
+            Op::RestoreFh => {}
+            Op::SaveFh => {}
+            Op::SecInfo(_) => {}
+            Op::SetAttr(_) => {}
+            Op::SetClientId(_) => {}
+            Op::SetClientIdConfirm(_) => {}
+            Op::Verify(_) => {}
+            Op::Write(_) => {}
+            Op::ReleaseLockOwner(_) => {}
+        }
+    }
+}
+
 /// Operations, in order.
 pub type Ops = Items<Op>;
 
 /// Which operation it is (RFC 7531, nfs_opnum4).
-#[derive(Clone, Copy, Debug, PartialEq, Eq)]
+#[derive(Clone, Copy, Debug)]
 pub enum OpCode {
     Access,
     Close,

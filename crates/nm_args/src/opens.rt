@@ -8,7 +8,7 @@ ghost use Rattle.nm_args.specs.Opens.{close, close_at, IsClose, mode_of, making_
 use crate::OwnedOpen;
 use crate::parts::{put_fattr, put_stateid, take_fattr, take_name, take_stateid, take_text};
 use nm_attrs::ReadFault;
-use nm_rules::{Claim, CloseArgs, OpenArgs, OpenConfirmArgs, OpenDowngradeArgs, OpenType};
+use nm_types::{Claim, CloseArgs, OpenArgs, OpenConfirmArgs, OpenDowngradeArgs, OpenType};
 use nm_xdr::{Cursor, Memory, Writer, XdrFault};
 use std::alloc::Global;
 

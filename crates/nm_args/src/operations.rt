@@ -24,7 +24,7 @@ use crate::opens::{
 use crate::parts::{put_fattr, take_bytes, take_fattr, take_name};
 use crate::{Op, OpCode};
 use nm_attrs::ReadFault;
-use nm_rules::Bytes;
+use nm_types::Bytes;
 use nm_xdr::{Cursor, Memory, Writer};
 use std::alloc::Global;
 

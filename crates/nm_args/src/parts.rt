@@ -1,13 +1,13 @@
 //! Items that several operations have (RFC 7531).
 ghost use Rattle.std.specs.Prelude.{◌≡◌, ◌<◌, ◌≤◌, ◌^◌, ◌++◌, length, OnOk};
 ghost use Rattle.nm_xdr.specs.Items.{word, opaque, opaque_at};
-ghost use Rattle.nm_rules.specs.Wire.{stateid_bytes};
+ghost use Rattle.nm_types.specs.Wire.{stateid_bytes};
 ghost use Rattle.nm_attrs.specs.Bitmaps.{bitmap, bitmap_at};
 ghost use Rattle.nm_attrs.specs.Takes.{Takes};
 ghost use Rattle.nm_args.specs.Parts.{name_at, text_at, stateid_at, fattr, fattr_at, AreAttributes, lock_number, lock_of, lock_type_at, stable_number, stable_of, stable_at};
 
 use nm_attrs::{ReadFault, put_bitmap, take_bitmap};
-use nm_rules::{Bytes, Fattr, LockType, Stable, StateRef, Words};
+use nm_types::{Bytes, Fattr, LockType, Stable, StateRef, Words};
 use nm_xdr::{Cursor, Memory, Writer, XdrFault};
 use std::alloc::Global;
 

@@ -10,7 +10,7 @@ use crate::operations::take_args;
 use crate::parts::take_text;
 use crate::{ArgsFault, Compound, CompoundEnd, Op, OpCode, Ops};
 use nm_attrs::ReadFault;
-use nm_rules::Bytes;
+use nm_types::Bytes;
 use nm_xdr::{Cursor, XdrFault};
 use std::alloc::Global;
 

@@ -6,7 +6,7 @@ ghost use Rattle.nm_args.specs.Compounds.{compound, CanBeWritten};
 
 use crate::operations::put_operation;
 use crate::{Compound, Op};
-use nm_rules::Memory;
+use nm_types::Memory;
 use nm_xdr::Writer;
 use std::alloc::Global;
 

@@ -7,7 +7,7 @@ ghost use Rattle.nm_xdr.specs.Items.{word, word_at};
 ghost use Rattle.std.specs.List.{flat_map};
 
 use crate::{AttrFault, ReadFault};
-use nm_rules::{Items, Memory};
+use nm_types::{Items, Memory};
 use nm_xdr::{Cursor, Writer};
 use std::alloc::Global;
 use std::marker::Model;
@@ -15,7 +15,7 @@ use std::marker::Model;
 /// Numbers of attributes, as at most 8 words (RFC 7531, bitmap4): attribute n is the bit n % 32 of the word n / 32.
 ///
 /// Contracts see the list of the words.
-#[derive(Debug, PartialEq, Eq, Drop)]
+#[derive(Debug, Drop)]
 pub struct Bitmap {
     words: Items<u32>,
 }

@@ -1,11 +1,11 @@
 //! Why an item, or the attributes of a file, aren't read.
 ghost use Rattle.std.specs.Prelude.{◌≡◌};
 
-use nm_rules::Memory;
+use nm_types::Memory;
 use nm_xdr::XdrFault;
 
 /// Why an item of a message isn't read.
-#[derive(Clone, Copy, Debug, PartialEq, Eq)]
+#[derive(Clone, Copy, Debug)]
 pub enum ReadFault {
     /// The bytes aren't the item's.
     Xdr(XdrFault),
@@ -34,7 +34,7 @@ impl From<Memory> for ReadFault {
 }
 
 /// Why attributes aren't read: the first that holds.
-#[derive(Clone, Copy, Debug, PartialEq, Eq)]
+#[derive(Clone, Copy, Debug)]
 pub enum AttrFault {
     /// An attribute isn't supported.
     Unsupported {

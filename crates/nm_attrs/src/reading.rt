@@ -10,7 +10,7 @@ use crate::{
     Attr, AttrFault, AttrKind, AttrLayout, AttrValue, Attrs, Bitmap, FsLocations, Location,
     Locations, Path, ReadFault, take_bitmap,
 };
-use nm_rules::Bytes;
+use nm_types::Bytes;
 use nm_xdr::{Cursor, XdrFault};
 use std::alloc::Global;
 

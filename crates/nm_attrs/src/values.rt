@@ -3,13 +3,13 @@ ghost use Rattle.std.specs.Prelude.{◌≡◌};
 ghost use Rattle.nm_attrs.specs.Attributes.{of_kind, table};
 
 use crate::Bitmap;
-use nm_rules::{Bytes, Items};
+use nm_types::{Bytes, Items};
 
 /// A path: its names, from the root on (RFC 7531, pathname4).
 pub type Path = Items<Bytes>;
 
 /// Where a file system is: servers that have it, and its root there (RFC 7531, fs_location4).
-#[derive(Debug, PartialEq, Eq, Drop)]
+#[derive(Debug, Drop)]
 pub struct Location {
     /// The names of the servers, each of at most 1,048,576 bytes.
     pub servers: Path,
@@ -21,7 +21,7 @@ pub struct Location {
 pub type Locations = Items<Location>;
 
 /// Where a file system is (RFC 7530, 5.8; RFC 7531, fs_locations4).
-#[derive(Debug, PartialEq, Eq, Drop)]
+#[derive(Debug, Drop)]
 pub struct FsLocations {
     /// Its root at the server that is asked.
     pub root: Path,
@@ -29,7 +29,7 @@ pub struct FsLocations {
 }
 
 /// The value of an attribute.
-#[derive(Debug, PartialEq, Eq, Drop)]
+#[derive(Debug, Drop)]
 pub enum AttrValue {
     /// Numbers of attributes.
     Words(Bitmap),
@@ -44,7 +44,7 @@ pub enum AttrValue {
 }
 
 /// An attribute of a file, with its value.
-#[derive(Debug, PartialEq, Eq, Drop)]
+#[derive(Debug, Drop)]
 pub struct Attr {
     /// Its number.
     pub bit: u32,
@@ -55,7 +55,7 @@ pub struct Attr {
 pub type Attrs = Items<Attr>;
 
 /// What the value of an attribute is.
-#[derive(Clone, Copy, Debug, PartialEq, Eq)]
+#[derive(Clone, Copy)]
 pub enum AttrKind {
     Words,
     U32,
@@ -67,7 +67,7 @@ pub enum AttrKind {
 }
 
 /// An attribute that is known: its number, and what its value is.
-#[derive(Clone, Copy, Debug, PartialEq, Eq)]
+#[derive(Clone, Copy)]
 pub struct AttrLayout {
     pub bit: u32,
     pub kind: AttrKind,

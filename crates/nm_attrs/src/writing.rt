@@ -5,7 +5,7 @@ ghost use Rattle.nm_xdr.specs.Items.{opaque};
 ghost use Rattle.nm_attrs.specs.Attributes.{path, location, fs_locations, value_bytes, mask_of, values_of, fattr_bytes, IsPath, IsLocation, AreLocations, IsValue, AreAttrs};
 
 use crate::{Attr, AttrValue, Attrs, Bitmap, FsLocations, Location, put_bitmap};
-use nm_rules::Bytes;
+use nm_types::Bytes;
 use nm_xdr::{Memory, Writer};
 use std::alloc::Global;
 

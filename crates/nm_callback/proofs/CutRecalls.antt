@@ -8,9 +8,9 @@ use Rattle.nm_xdr.proofs.ItemLaws.{word_item, hyper_item, flag_item}
 use Rattle.nm_rpc.specs.Messages.{CallHeader, parts, header, item_or_missing, auth_at, EndsWithin}
 use Rattle.nm_rpc.specs.Replies.{only_at, choice_at}
 use Rattle.nm_rpc.proofs.HeaderLaws.{auth_item}
-use Rattle.nm_rules.specs.declared.calls.StateId.{StateId}
-use Rattle.nm_rules.specs.declared.wire.Handle.{Handle}
-use Rattle.nm_rules.specs.Wire.{handle_bytes, handle_of, IsHandle}
+use Rattle.nm_types.specs.declared.calls.StateId.{StateId}
+use Rattle.nm_types.specs.declared.wire.Handle.{Handle}
+use Rattle.nm_types.specs.Wire.{handle_bytes, handle_of, IsHandle}
 use Rattle.nm_callback.specs.declared.callback.Callback.{Callback}
 use Rattle.nm_callback.specs.declared.callback.Callback.TheVariants.{Recall}
 use Rattle.nm_callback.specs.declared.callback.CallbackFault.TheVariants.{At}

@@ -9,10 +9,10 @@ use Rattle.nm_xdr.proofs.FieldLaws.{IsBytes-behind, field_part, made_part, recor
 use Rattle.nm_xdr.proofs.ItemLaws.{word_item, hyper_item, opaque_item, counted_item}
 use Rattle.nm_rpc.specs.Messages.{item_or_missing, item, passed, pass}
 use Rattle.nm_rpc.specs.Replies.{only_at, choice_at}
-use Rattle.nm_rules.specs.declared.calls.StateId.{StateId}
-use Rattle.nm_rules.specs.declared.wire.Handle.{Handle}
-use Rattle.nm_rules.specs.Wire.{word as rule_word, hyper as rule_hyper, handle_bytes, handle_of, IsHandle}
-use Rattle.nm_rules.proofs.WireLaws.{handle_read, handle_written}
+use Rattle.nm_types.specs.declared.calls.StateId.{StateId}
+use Rattle.nm_types.specs.declared.wire.Handle.{Handle}
+use Rattle.nm_types.specs.Wire.{word as rule_word, hyper as rule_hyper, handle_bytes, handle_of, IsHandle}
+use Rattle.nm_types.proofs.WireLaws.{handle_read, handle_written}
 use Rattle.nm_callback.specs.Callbacks.{stateid, numbers_at, other_at, stateid_at, bytes_at, named, handle_at, words_at, IsStateId}
 
 -- ---- Words that have to be a number

@@ -7,9 +7,9 @@ use Rattle.nm_xdr.specs.Items.{word, flag, opaque, counted, word_at, flag_at}
 use Rattle.nm_xdr.proofs.FieldLaws.{IsBytes-behind, bind_ok, same_value}
 use Rattle.nm_xdr.proofs.ItemLaws.{word_item, flag_item}
 use Rattle.nm_rpc.specs.Messages.{CallHeader, header, IsHeader, passed, pass}
-use Rattle.nm_rules.specs.declared.calls.StateId.{StateId}
-use Rattle.nm_rules.specs.declared.wire.Handle.{Handle}
-use Rattle.nm_rules.specs.Wire.{handle_bytes, IsHandle}
+use Rattle.nm_types.specs.declared.calls.StateId.{StateId}
+use Rattle.nm_types.specs.declared.wire.Handle.{Handle}
+use Rattle.nm_types.specs.Wire.{handle_bytes, IsHandle}
 use Rattle.nm_callback.specs.declared.callback.Callback.{Callback}
 use Rattle.nm_callback.specs.declared.callback.Callback.TheVariants.{Null, Recall, GetAttr, Illegal}
 use Rattle.nm_callback.specs.declared.callback.CallbackFault.{CallbackFault}

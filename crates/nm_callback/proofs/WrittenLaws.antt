@@ -5,9 +5,9 @@ use Rattle.nm_rpc.specs.Messages.{header, IsHeader}
 use Rattle.nm_rpc.specs.Replies.{done, accepted, reply, reply_of}
 use Rattle.nm_rpc.specs.declared.replies.ReplyOutcome.TheVariants.{Success}
 use Rattle.nm_rpc.proofs.ReplyLaws.{said_again}
-use Rattle.nm_rules.specs.declared.status.OpStatus.{OpStatus}
-use Rattle.nm_rules.specs.declared.calls.StateId.{StateId}
-use Rattle.nm_rules.specs.declared.wire.Handle.{Handle}
+use Rattle.nm_types.specs.declared.status.OpStatus.{OpStatus}
+use Rattle.nm_types.specs.declared.calls.StateId.{StateId}
+use Rattle.nm_types.specs.declared.wire.Handle.{Handle}
 use Rattle.nm_callback.specs.declared.callback.Callback.TheVariants.{Recall}
 use Rattle.nm_callback.specs.Callbacks.{recalls, compound, written_header, recall, result_body, callback_reply, callback_of, IsCallback, CanBeRecalled}
 use Rattle.nm_callback.proofs.OpeningLaws.{IsOpening}

@@ -6,11 +6,11 @@ use Rattle.nm_xdr.specs.Places.{place_of}
 use Rattle.nm_xdr.specs.declared.fault.XdrFault.{XdrFault}
 use Rattle.nm_rpc.specs.Messages.{CallHeader, parts, header, IsHeader, item, auth_at, pass}
 use Rattle.nm_rpc.specs.Replies.{done, reply, only_at, choice_at}
-use Rattle.nm_rules.specs.declared.calls.StateId.{StateId}
-use Rattle.nm_rules.specs.declared.wire.Handle.{Handle}
-use Rattle.nm_rules.specs.declared.status.OpStatus.{OpStatus}
-use Rattle.nm_rules.specs.Statuses.{number_of}
-use Rattle.nm_rules.specs.Wire.{handle_bytes, handle_of, IsHandle}
+use Rattle.nm_types.specs.declared.calls.StateId.{StateId}
+use Rattle.nm_types.specs.declared.wire.Handle.{Handle}
+use Rattle.nm_types.specs.declared.status.OpStatus.{OpStatus}
+use Rattle.nm_types.specs.Statuses.{number_of}
+use Rattle.nm_types.specs.Wire.{handle_bytes, handle_of, IsHandle}
 use Rattle.nm_callback.specs.declared.callback.Callback.{Callback}
 use Rattle.nm_callback.specs.declared.callback.Callback.TheVariants.{Null, Recall, GetAttr, Illegal}
 use Rattle.nm_callback.specs.declared.callback.CallbackFault.{CallbackFault}

@@ -2,11 +2,11 @@
 ghost use Rattle.std.specs.Prelude.{◌≡◌};
 ghost use Rattle.nm_xdr.specs.Places.{place_of};
 
-use nm_rules::{Handle, StateId};
+use nm_types::{Handle, StateId};
 use nm_xdr::XdrFault;
 
 /// A call from a server to a client (RFC 7530, 15.3 and 16). Each has the xid, the number that the reply will have.
-#[derive(Clone, Copy, Debug, PartialEq, Eq)]
+#[derive(Clone, Copy, Debug)]
 pub enum Callback {
     /// CB_NULL, which asks for nothing but a reply.
     Null {
@@ -33,7 +33,7 @@ pub enum Callback {
 }
 
 /// Why bytes aren't a callback.
-#[derive(Clone, Copy, Debug, PartialEq, Eq)]
+#[derive(Clone, Copy, Debug)]
 pub enum CallbackFault {
     /// An item isn't all there or has another value than it must, or bytes are left over.
     At {

@@ -7,7 +7,7 @@ ghost use Rattle.nm_rpc.specs.Messages.{auth_at, pass};
 ghost use Rattle.nm_rpc.specs.Replies.{only_at, choice_at};
 ghost use Rattle.nm_callback.specs.Callbacks.{stateid, numbers_at, other_at, stateid_at, bytes_at, handle_at, words_at};
 
-use nm_rules::{Handle, StateId};
+use nm_types::{Handle, StateId};
 use nm_xdr::{Cursor, Memory, Writer, XdrFault};
 
 /// The version of a client's program (RFC 7531, NFS4_CALLBACK).

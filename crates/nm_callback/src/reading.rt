@@ -18,7 +18,7 @@ use nm_xdr::{Cursor, XdrFault};
 ///
 /// At with the place of the first item that isn't all there or has another value (a message that isn't a call, a version of
 /// RPC other than 2, a version of the program other than 1, a procedure past 1, a count of operations other than 1, a length
-/// or count past its limit, padding that isn't 0, a flag past 1, a handle of CB_RECALL that [`nm_rules::Handle::read`] doesn't
+/// or count past its limit, padding that isn't 0, a flag past 1, a handle of CB_RECALL that [`nm_types::Handle::read`] doesn't
 /// give), else with that of the first byte left over. Reading takes no memory, so Memory is never answered.
 #[tactic(auto, unfolding(crate::specs::Callbacks::callback_of))]
 pub fn read_callback(bytes: &[u8]) -> Result<Callback, CallbackFault>

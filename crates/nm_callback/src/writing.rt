@@ -4,7 +4,7 @@ ghost use Rattle.nm_callback.specs.Callbacks.{body, compound, recalls, recall, r
 
 use crate::parts::{VERSION, put_stateid};
 use nm_rpc::{CallHead, write_call, write_reply};
-use nm_rules::{Bytes, Handle, Memory, OpStatus, Principal, StateId};
+use nm_types::{Bytes, Handle, Memory, OpStatus, Principal, StateId};
 use nm_xdr::Writer;
 use std::alloc::Global;
 

@@ -1,288 +1,233 @@
 //! Records of RPC (RFC 5531, 11).
-use nm_rpc::*;
+use crate::{Fault, text};
+use nm_rpc::{RecordFault, Records, split_records, write_records};
 use std::alloc::Global;
-use std::test::Fail;
 
-const MIB: u32 = 1_048_576;
-
-/// Two fragments of one record, `aabbcc`.
-const CUT: [u8; 11] = [0, 0, 0, 2, 0xaa, 0xbb, 0x80, 0, 0, 1, 0xcc];
-
-/// What a program in Python packs with `struct` of four records in seven fragments: `hello, records` as
-/// `hello`, nothing and the rest; no bytes; nothing, the bytes 3, 10, .. 59 and the bytes 250 to 255;
-/// `last one`.
-const PACKED: [u8; 69] = [
-    0, 0, 0, 5, 104, 101, 108, 108, 111, 0, 0, 0, 0, 128, 0, 0, 9, 44, 32, 114, 101, 99, 111, 114,
-    100, 115, 128, 0, 0, 0, 0, 0, 0, 0, 0, 0, 0, 9, 3, 10, 17, 24, 31, 38, 45, 52, 59, 128, 0, 0,
-    6, 250, 251, 252, 253, 254, 255, 128, 0, 0, 8, 108, 97, 115, 116, 32, 111, 110, 101,
-];
-
-const PACKED_RECORDS: [&[u8]; 4] = [
-    b"hello, records",
-    &[],
-    &[
-        3, 10, 17, 24, 31, 38, 45, 52, 59, 250, 251, 252, 253, 254, 255,
-    ],
-    b"last one",
-];
-
-/// Whether the next record that waits is this one.
-fn gives(records: &mut Records, wanted: &[u8]) -> bool {
-    match records.next() {
-        Some(record) => record.as_slice() == wanted,
-        None => false,
+/// The answer to a case of records.
+pub(crate) fn line(alloc: Global, words: &[&str], out: &mut String) -> Result<(), Fault> {
+    match words {
+        ["records", limit, steps @ ..] => run(alloc, text::short(limit)?, steps, out),
+        ["halves", limit, bytes] => halves(alloc, text::short(limit)?, bytes, out),
+        ["pieces", limit, bytes] => pieces(alloc, text::short(limit)?, bytes, out),
+        ["message", bytes] => message(alloc, bytes, out),
+        _ => Err(Fault::NoCase),
     }
 }
 
-/// Whether these and no others wait.
-fn gives_all(records: &mut Records, wanted: &[&[u8]]) -> bool {
-    for record in wanted {
-        if !gives(records, record) {
-            return false;
+// `records LIMIT STEP ..`: what comes of each step. HEX feeds these bytes, `next` gives a record, and `all` those that wait.
+fn run(alloc: Global, limit: u32, steps: &[&str], out: &mut String) -> Result<(), Fault> {
+    let mut records = Records::new(alloc, limit);
+    for (index, word) in steps.iter().enumerate() {
+        if index > 0 {
+            out.push_str("; ")?;
         }
+        step(alloc, &mut records, word, out)?;
     }
-    records.next().is_none()
+    Ok(())
 }
 
-/// Feeds a piece, and where there was no memory for it feeds it once more, as if it had never been fed.
-fn feed_again(records: &mut Records, piece: &[u8]) -> Result<(), RecordFault> {
-    match records.feed(piece) {
+fn step(alloc: Global, records: &mut Records, word: &str, out: &mut String) -> Result<(), Fault> {
+    match word {
+        "next" => put_next(records, out),
+        "all" => put_all(records, out),
+        _ => feed_word(alloc, records, word, out),
+    }
+}
+
+fn feed_word(
+    alloc: Global,
+    records: &mut Records,
+    word: &str,
+    out: &mut String,
+) -> Result<(), Fault> {
+    let piece = text::bytes_of(alloc, word)?;
+    feed(records, &piece, out)
+}
+
+fn put_next(records: &mut Records, out: &mut String) -> Result<(), Fault> {
+    match records.next() {
+        Some(record) => text::put_bytes(out, &record),
+        None => Ok(out.push_str("none")?),
+    }
+}
+
+// The most records that are told.
+const MOST: usize = 1_000_000;
+
+// The records that wait, until there is none.
+fn put_all(records: &mut Records, out: &mut String) -> Result<(), Fault> {
+    out.push('[')?;
+    for index in 0..MOST {
+        let Some(record) = records.next() else {
+            break;
+        };
+        if index > 0 {
+            out.push(' ')?;
+        }
+        text::put_bytes(out, &record)?;
+    }
+    out.push(']')?;
+    Ok(())
+}
+
+// Feeds a piece, and where there was no memory for it once more, as if it had never been fed.
+fn fed(records: &mut Records, piece: &[u8]) -> Result<Result<(), RecordFault>, Fault> {
+    let answer = match records.feed(piece) {
         Err(RecordFault::Memory) => records.feed(piece),
         answer => answer,
+    };
+    match answer {
+        Err(RecordFault::Memory) => Err(Fault::Memory),
+        answer => Ok(answer),
     }
 }
 
-#[test]
-fn two_missing_bytes_are_waited_for(rt: HostRuntime) -> Result<(), Fail> {
-    let mut records = Records::new(rt.alloc(), MIB);
-    records.feed(&[0, 0, 0, 0, 0x80, 0, 0, 2])?;
-    assert!(rt; records.next().is_none());
-    records.feed(&[7])?;
-    assert!(rt; records.next().is_none());
-    records.feed(&[8])?;
-    assert!(rt; gives_all(&mut records, &[&[7, 8]]));
+fn feed(records: &mut Records, piece: &[u8], out: &mut String) -> Result<(), Fault> {
+    match fed(records, piece)? {
+        Ok(()) => Ok(out.push_str("fed")?),
+        Err(fault) => Ok(write!(out, "fault {fault:?}")?),
+    }
+}
+
+// `halves LIMIT HEX`: for each place of the stream the records of the bytes before it, and those of these bytes and the rest.
+fn halves(alloc: Global, limit: u32, word: &str, out: &mut String) -> Result<(), Fault> {
+    let stream = text::bytes_of(alloc, word)?;
+    put_halves(alloc, limit, &stream, out)
+}
+
+fn put_halves(alloc: Global, limit: u32, stream: &[u8], out: &mut String) -> Result<(), Fault> {
+    let mut last = String::new(alloc);
+    for place in 0..=stream.len() {
+        let told = told_of_halves(alloc, limit, stream, place)?;
+        text::put_change(place, told, &mut last, out)?;
+    }
     Ok(())
 }
 
-/// The record and no other comes from these two pieces.
-fn comes_from(alloc: Global, front: &[u8], rest: &[u8], wanted: &[u8]) -> Result<bool, Fail> {
-    let mut records = Records::new(alloc, MIB);
-    records.feed(front)?;
-    records.feed(rest)?;
-    Ok(gives_all(&mut records, &[wanted]))
+fn told_of_halves(alloc: Global, limit: u32, stream: &[u8], place: usize) -> Result<String, Fault> {
+    let mut told = String::new(alloc);
+    put_half(alloc, limit, stream, place, &mut told)?;
+    Ok(told)
 }
 
-fn is_waited_for(alloc: Global, front: &[u8]) -> Result<bool, Fail> {
-    let mut records = Records::new(alloc, MIB);
-    records.feed(front)?;
-    Ok(records.next().is_none())
-}
-
-/// The first place where a stream of one record can be cut and it doesn't come from the two pieces, or comes too early or late.
-fn first_cut_that_differs(
+fn put_half(
     alloc: Global,
+    limit: u32,
     stream: &[u8],
-    wanted: &[u8],
-) -> Result<Option<usize>, Fail> {
-    for at in 0..=stream.len() {
-        let (front, rest) = stream.split_at(at);
-        let waits = is_waited_for(alloc, front)?;
-        if waits != (at < stream.len()) || !comes_from(alloc, front, rest, wanted)? {
-            return Ok(Some(at));
-        }
+    place: usize,
+    out: &mut String,
+) -> Result<(), Fault> {
+    let (Some(front), Some(rest)) = (stream.get(..place), stream.get(place..)) else {
+        return Err(Fault::NoCase);
+    };
+    feed_pieces(alloc, limit, &[front], out)?;
+    out.push_str(" then ")?;
+    feed_pieces(alloc, limit, &[front, rest], out)
+}
+
+// What comes of these pieces, one after the other.
+fn feed_pieces(alloc: Global, limit: u32, pieces: &[&[u8]], out: &mut String) -> Result<(), Fault> {
+    let mut records = Records::new(alloc, limit);
+    for piece in pieces {
+        feed(&mut records, piece, out)?;
+        out.push(' ')?;
     }
-    Ok(None)
+    put_all(&mut records, out)
 }
 
-#[test]
-fn a_record_comes_from_any_two_pieces(rt: HostRuntime) -> Result<(), Fail> {
-    let first = first_cut_that_differs(rt.alloc(), &CUT, &[0xaa, 0xbb, 0xcc])?;
-    assert_eq!(rt; first, None);
-    Ok(())
+// `pieces LIMIT HEX`: for each size the records of the stream in pieces of that size, fed and split.
+fn pieces(alloc: Global, limit: u32, word: &str, out: &mut String) -> Result<(), Fault> {
+    let stream = text::bytes_of(alloc, word)?;
+    put_pieces(alloc, limit, &stream, out)
 }
 
-/// Feeds single bytes. The first before which a record is there.
-fn first_early_byte(records: &mut Records, stream: &[u8]) -> Result<Option<usize>, Fail> {
-    for at in 0..stream.len() {
-        if records.next().is_some() {
-            return Ok(Some(at));
-        }
-        records.feed(&[stream[at]])?;
+fn put_pieces(alloc: Global, limit: u32, stream: &[u8], out: &mut String) -> Result<(), Fault> {
+    let mut last = String::new(alloc);
+    for size in 1..=stream.len() {
+        let told = told_of_pieces(alloc, limit, stream, size)?;
+        text::put_change(size, told, &mut last, out)?;
     }
-    Ok(None)
-}
-
-#[test]
-fn a_record_comes_from_single_bytes(rt: HostRuntime) -> Result<(), Fail> {
-    let mut records = Records::new(rt.alloc(), MIB);
-    let early = first_early_byte(&mut records, &CUT)?;
-    let comes = gives_all(&mut records, &[&[0xaa, 0xbb, 0xcc]]);
-    assert_eq!(rt; (early, comes), (None, true));
     Ok(())
 }
 
-#[test]
-fn the_limit_itself_is_taken(rt: HostRuntime) -> Result<(), Fail> {
-    let mut records = Records::new(rt.alloc(), MIB);
-    records.feed(&[0x80, 0x10, 0, 0])?;
-    assert!(rt; records.next().is_none());
-    let mut records = Records::new(rt.alloc(), MIB);
-    assert_eq!(rt;
-        records.feed(&[0x80, 0x10, 0, 1]),
-        Err(RecordFault::TooLong { got: 1_048_577 })
-    );
-    Ok(())
+fn told_of_pieces(alloc: Global, limit: u32, stream: &[u8], size: usize) -> Result<String, Fault> {
+    let mut told = String::new(alloc);
+    feed_sized(alloc, limit, stream, size, &mut told)?;
+    told.push_str(" split ")?;
+    split(alloc, limit, stream, size, &mut told)?;
+    Ok(told)
 }
 
-#[test]
-fn fragments_add_up_to_the_limit(rt: HostRuntime) -> Result<(), Fail> {
-    let mut records = Records::new(rt.alloc(), 5);
-    records.feed(&[0, 0, 0, 3, 1, 2, 3, 0x80, 0, 0, 2, 4, 5])?;
-    assert!(rt; gives_all(&mut records, &[&[1, 2, 3, 4, 5]]));
-    // The next record's sum begins anew.
-    records.feed(&[0, 0, 0, 5, 1, 2, 3, 4, 5])?;
-    assert_eq!(rt;
-        records.feed(&[0x80, 0, 0, 1]),
-        Err(RecordFault::TooLong { got: 6 })
-    );
-    let mut records = Records::new(rt.alloc(), u32::MAX);
-    records.feed(&[0, 0, 0, 2, 1, 2, 0x7f, 0xff, 0xff, 0xff])?;
-    assert!(rt; records.next().is_none());
-    let mut records = Records::new(rt.alloc(), 0);
-    records.feed(&[0x80, 0, 0, 0])?;
-    assert!(rt; gives_all(&mut records, &[&[]]));
-    assert_eq!(rt;
-        records.feed(&[0xff, 0xff, 0xff, 0xff]),
-        Err(RecordFault::TooLong { got: 0x7fff_ffff })
-    );
-    Ok(())
-}
-
-#[test]
-fn a_stream_is_refused_for_good(rt: HostRuntime) -> Result<(), Fail> {
-    let refused = Err(RecordFault::TooLong { got: 9 });
-    let mut records = Records::new(rt.alloc(), 8);
-    records.feed(&[0x80, 0, 0, 1, 1])?;
-    let piece = [
-        0x80, 0, 0, 2, 2, 3, 0, 0, 0, 1, 4, 0, 0, 0, 8, 0x80, 0, 0, 0,
-    ];
-    assert_eq!(rt; records.feed(&piece), refused);
-    assert_eq!(rt; records.feed(&[0x80, 0, 0, 0]), refused);
-    assert!(rt; gives(&mut records, &[1]));
-    assert_eq!(rt; records.feed(&[]), refused);
-    assert!(rt; gives_all(&mut records, &[&[2, 3]]));
-    assert_eq!(rt; records.feed(&CUT), refused);
-    assert!(rt; records.next().is_none());
-    Ok(())
-}
-
-#[test]
-fn empty_fragments_are_taken(rt: HostRuntime) -> Result<(), Fail> {
-    let mut records = Records::new(rt.alloc(), MIB);
-    records.feed(&[
-        0, 0, 0, 0, 0x80, 0, 0, 0, 0x80, 0, 0, 0, 0, 0, 0, 1, 5, 0, 0, 0, 0, 0x80, 0, 0, 0,
-    ])?;
-    assert!(rt; gives_all(&mut records, &[&[], &[], &[5]]));
-    // Many in one piece end too.
-    let mut records = Records::new(rt.alloc(), 0);
-    records.feed(&[0; 4_000])?;
-    assert!(rt; records.next().is_none());
-    records.feed(&[0x80, 0, 0, 0])?;
-    assert!(rt; gives_all(&mut records, &[&[]]));
-    Ok(())
-}
-
-/// The records come from the stream in pieces of that size.
-fn come_in_pieces(
+// The records of a stream that is fed in pieces of this size, up to the first that is refused.
+fn feed_sized(
     alloc: Global,
+    limit: u32,
     stream: &[u8],
     size: usize,
-    wanted: &[&[u8]],
-) -> Result<bool, Fail> {
-    let mut records = Records::new(alloc, 15);
+    out: &mut String,
+) -> Result<(), Fault> {
+    let mut records = Records::new(alloc, limit);
     for piece in stream.chunks(size.max(1)) {
-        feed_again(&mut records, piece)?;
-    }
-    Ok(gives_all(&mut records, wanted))
-}
-
-/// The first size of pieces from which other records come.
-fn first_size_that_differs(
-    alloc: Global,
-    stream: &[u8],
-    wanted: &[&[u8]],
-) -> Result<Option<usize>, Fail> {
-    for size in 1..=stream.len() {
-        if !come_in_pieces(alloc, stream, size, wanted)? {
-            return Ok(Some(size));
+        if let Err(fault) = fed(&mut records, piece)? {
+            write!(out, "fault {fault:?} ")?;
+            break;
         }
     }
-    Ok(None)
+    put_all(&mut records, out)
 }
 
-#[test]
-fn what_python_packed_is_taken(rt: HostRuntime) -> Result<(), Fail> {
-    let first = first_size_that_differs(rt.alloc(), &PACKED, &PACKED_RECORDS)?;
-    assert_eq!(rt; first, None);
-    Ok(())
+fn split(
+    alloc: Global,
+    limit: u32,
+    stream: &[u8],
+    size: usize,
+    out: &mut String,
+) -> Result<(), Fault> {
+    let pieces = in_pieces(alloc, stream, size)?;
+    put_split(split_records(alloc, limit, &pieces), out)
 }
 
-/// The stream in pieces of this size.
-fn in_pieces(alloc: Global, stream: &[u8], size: usize) -> Result<Vec<Vec<u8>>, Fail> {
+// The stream in pieces of this size.
+fn in_pieces(alloc: Global, stream: &[u8], size: usize) -> Result<Vec<Vec<u8>>, Fault> {
     let mut pieces = Vec::new(alloc);
     for piece in stream.chunks(size.max(1)) {
-        pieces.push(Vec::from_slice(alloc, piece)?)?;
+        pieces.push(piece.to_vec(alloc)?)?;
     }
     Ok(pieces)
 }
 
-/// The records are these.
-fn are_these(records: &[Vec<u8>], wanted: &[&[u8]]) -> bool {
-    if records.len() != wanted.len() {
-        return false;
+fn put_split(records: Result<Vec<Vec<u8>>, RecordFault>, out: &mut String) -> Result<(), Fault> {
+    match records {
+        Ok(records) => put_records(&records, out),
+        Err(RecordFault::Memory) => Err(Fault::Memory),
+        Err(fault) => Ok(write!(out, "fault {fault:?}")?),
     }
-    for at in 0..wanted.len() {
-        if records[at].as_slice() != wanted[at] {
-            return false;
+}
+
+fn put_records(records: &[Vec<u8>], out: &mut String) -> Result<(), Fault> {
+    out.push('[')?;
+    for (index, record) in records.iter().enumerate() {
+        if index > 0 {
+            out.push(' ')?;
         }
+        text::put_bytes(out, record)?;
     }
-    true
+    Ok(out.push(']')?)
 }
 
-/// The stream is split so, in pieces of that size, and refused where a record may have one byte less than the longest.
-fn is_split(alloc: Global, stream: &[u8], size: usize, wanted: &[&[u8]]) -> Result<bool, Fail> {
-    let pieces = in_pieces(alloc, stream, size)?;
-    let refused = split_records(alloc, 14, &pieces).err();
-    let records = split_records(alloc, 15, &pieces)?;
-    let same = are_these(&records, wanted);
-    Ok(same && refused == Some(RecordFault::TooLong { got: 15 }))
+// `message HEX`: the record that is written of a message, and what is read of it.
+fn message(alloc: Global, word: &str, out: &mut String) -> Result<(), Fault> {
+    let bytes = text::bytes_of(alloc, word)?;
+    if bytes.len() >= 0x8000_0000 {
+        return Err(Fault::NoCase);
+    }
+    let record = write_records(alloc, &bytes)?;
+    put_record(alloc, bytes.len() as u32, &record, out)
 }
 
-#[test]
-fn pieces_are_split(rt: HostRuntime) -> Result<(), Fail> {
-    let alloc = rt.alloc();
-    let split = [
-        is_split(alloc, &PACKED, 1, &PACKED_RECORDS)?,
-        is_split(alloc, &PACKED, 7, &PACKED_RECORDS)?,
-        is_split(alloc, &PACKED, 69, &PACKED_RECORDS)?,
-    ];
-    assert_eq!(rt; split, [true; 3]);
-    Ok(())
-}
-
-#[test]
-fn a_message_is_written_as_python_does(rt: HostRuntime) -> Result<(), Fail> {
-    let alloc = rt.alloc();
-    assert_eq!(rt;
-        write_records(alloc, b"ping")?.as_slice(),
-        [128, 0, 0, 4, 112, 105, 110, 103].as_slice()
-    );
-    assert_eq!(rt;
-        write_records(alloc, b"")?.as_slice(),
-        [128, 0, 0, 0].as_slice()
-    );
-    let mut records = Records::new(alloc, 4);
-    records.feed(&write_records(alloc, b"ping")?)?;
-    assert!(rt; gives_all(&mut records, &[b"ping"]));
-    Ok(())
+// A record, and what is read of it.
+fn put_record(alloc: Global, limit: u32, record: &[u8], out: &mut String) -> Result<(), Fault> {
+    text::put_bytes(out, record)?;
+    out.push(' ')?;
+    feed_pieces(alloc, limit, &[record], out)
 }

@@ -1,223 +1,208 @@
-//! Values from the standard, and each call that allocates run once.
-use nm_rules::{
+//! Statuses, numbers, instances, and the copies of rows, actions and replies.
+use crate::{Fault, text};
+use nm_types::{
     Action, Bytes, CloseAction, Epoch, Era, FsNum, Instance, Items, MoveNum, NameFault, OpStatus,
     OpenAction, OpenRow, Owner, OwnerKind, Principal, Reply, ReplyValue, ServerNum, Verb,
 };
 use std::alloc::Global;
-use std::test::Fail;
 
-const ROOT: Principal = Principal { flavor: 1, uid: 0 };
+/// The answer to a case of names and numbers.
+pub(crate) fn line(alloc: Global, words: &[&str], out: &mut String) -> Result<(), Fault> {
+    match words {
+        ["status", number] => status(text::short(number)?, out),
+        ["number", kind, number] => numbered(kind, text::number(number)?, out),
+        ["instance", start, id] => instance(alloc, start, id, out),
+        ["owners", owners @ ..] => owners_of(alloc, owners, out),
+        ["list", items, more] => list(alloc, items, text::short(more)?, out),
+        ["row", numbers, start, id, text] => row(alloc, numbers, [start, id, text], out),
+        ["verb", kind] => verb(alloc, kind, out),
+        ["setattr-reply", words] => reply(alloc, words, out),
+        _ => Err(Fault::NoCase),
+    }
+}
 
-fn owner(alloc: Global, id: &[u8]) -> Result<Owner, Fail> {
+// `status NUMBER`: the status of that number, its number, and whether an owner's seqid goes on with it (RFC 7530, 9.1.7).
+fn status(number: u32, out: &mut String) -> Result<(), Fault> {
+    match OpStatus::read(number) {
+        Some(status) => {
+            let again = status.number();
+            let goes = if status.advances() {
+                "goes on"
+            } else {
+                "stays"
+            };
+            Ok(write!(out, "{status:?} {again} {goes}")?)
+        }
+        None => Ok(out.push_str("none")?),
+    }
+}
+
+// `number KIND NUMBER`: the number again, where there is one of that kind.
+fn numbered(kind: &str, number: u64, out: &mut String) -> Result<(), Fault> {
+    match kind {
+        "fs" => put_fs(FsNum::new(short_of(number)), out),
+        "server" => put_server(ServerNum::new(short_of(number)), out),
+        "epoch" => text::put_number(Epoch::new(number).number(), out),
+        "move" => text::put_number(MoveNum::new(number).number(), out),
+        "era" => text::put_number(Era::new(number).number(), out),
+        _ => Err(Fault::NoCase),
+    }
+}
+
+// The number, or the greatest of 32 bits where it is above that.
+fn short_of(number: u64) -> u32 {
+    match u32::try_from(number) {
+        Ok(number) => number,
+        Err(_) => u32::MAX,
+    }
+}
+
+fn put_fs(fs: Option<FsNum>, out: &mut String) -> Result<(), Fault> {
+    match fs {
+        Some(fs) => text::put_number(u64::from(fs.number()), out),
+        None => Ok(out.push_str("none")?),
+    }
+}
+
+fn put_server(server: Option<ServerNum>, out: &mut String) -> Result<(), Fault> {
+    match server {
+        Some(server) => text::put_number(u64::from(server.number()), out),
+        None => Ok(out.push_str("none")?),
+    }
+}
+
+// A start `VERIFIER,FLAVOR,UID` of the client with this string.
+fn instance_of(alloc: Global, start: &str, id: &str) -> Result<Result<Instance, NameFault>, Fault> {
+    let numbers = text::numbers_of(alloc, start)?;
+    let [verifier, flavor, uid] = *numbers.as_slice() else {
+        return Err(Fault::NoCase);
+    };
+    let id = text::bytes_of(alloc, id)?;
+    let principal = Principal { flavor, uid };
+    Ok(Instance::make(&id, u64::from(verifier), principal))
+}
+
+// `instance START ID`: the parts of a copy of the instance.
+fn instance(alloc: Global, start: &str, id: &str, out: &mut String) -> Result<(), Fault> {
+    match instance_of(alloc, start, id)? {
+        Ok(instance) => put_instance(&instance.share(), out),
+        Err(fault) => Ok(write!(out, "fault {fault:?}")?),
+    }
+}
+
+fn put_instance(instance: &Instance, out: &mut String) -> Result<(), Fault> {
+    let verifier = instance.verifier();
+    let Principal { flavor, uid } = instance.principal();
+    write!(out, "verifier {verifier} flavor {flavor} uid {uid} id ")?;
+    text::put_bytes(out, instance.id())
+}
+
+fn owner_of(alloc: Global, words: &[&str]) -> Result<Owner, Fault> {
+    let [start, id, text] = words else {
+        return Err(Fault::NoCase);
+    };
+    let Ok(instance) = instance_of(alloc, start, id)? else {
+        return Err(Fault::NoCase);
+    };
     Ok(Owner {
-        instance: instance(id, 7, ROOT)?,
+        instance,
         kind: OwnerKind::Opens,
-        text: Bytes::from_slice(alloc, b"C1/o")?,
+        text: text::list_of(alloc, text)?,
     })
 }
 
-/// RFC 7530, 13.1, by the names of its table.
-const STATUSES: [(OpStatus, u32); 43] = [
-    (OpStatus::Nfs4Ok, 0),
-    (OpStatus::NoEnt, 2),
-    (OpStatus::Exist, 17),
-    (OpStatus::NotDir, 20),
-    (OpStatus::IsDir, 21),
-    (OpStatus::Inval, 22),
-    (OpStatus::FBig, 27),
-    (OpStatus::NoSpc, 28),
-    (OpStatus::NameTooLong, 63),
-    (OpStatus::NotEmpty, 66),
-    (OpStatus::Stale, 70),
-    (OpStatus::BadHandle, 10001),
-    (OpStatus::NotSupp, 10004),
-    (OpStatus::TooSmall, 10005),
-    (OpStatus::ServerFault, 10006),
-    (OpStatus::BadType, 10007),
-    (OpStatus::Delay, 10008),
-    (OpStatus::Denied, 10010),
-    (OpStatus::Expired, 10011),
-    (OpStatus::Locked, 10012),
-    (OpStatus::Grace, 10013),
-    (OpStatus::ShareDenied, 10015),
-    (OpStatus::ClidInUse, 10017),
-    (OpStatus::Resource, 10018),
-    (OpStatus::Moved, 10019),
-    (OpStatus::NoFileHandle, 10020),
-    (OpStatus::MinorVersMismatch, 10021),
-    (OpStatus::StaleClientId, 10022),
-    (OpStatus::StaleStateId, 10023),
-    (OpStatus::OldStateId, 10024),
-    (OpStatus::BadStateId, 10025),
-    (OpStatus::BadSeqid, 10026),
-    (OpStatus::NotSame, 10027),
-    (OpStatus::RestoreFh, 10030),
-    (OpStatus::LeaseMoved, 10031),
-    (OpStatus::AttrNotSupp, 10032),
-    (OpStatus::NoGrace, 10033),
-    (OpStatus::BadXdr, 10036),
-    (OpStatus::LocksHeld, 10037),
-    (OpStatus::OpenMode, 10038),
-    (OpStatus::BadName, 10041),
-    (OpStatus::OpIllegal, 10044),
-    (OpStatus::FileOpen, 10046),
-];
-
-/// The first of these with another number.
-fn first_number_otherwise(rows: &[(OpStatus, u32)]) -> Option<usize> {
-    for row in 0..rows.len() {
-        let (status, number) = rows[row];
-        if status.number() != number || OpStatus::read(number) != Some(status) {
-            return Some(row);
-        }
-    }
-    None
+// `owners START ID TEXT START ID TEXT`: whether two clients are the same instance, and two owners the same.
+fn owners_of(alloc: Global, words: &[&str], out: &mut String) -> Result<(), Fault> {
+    let (Some(first), Some(other)) = (words.get(..3), words.get(3..)) else {
+        return Err(Fault::NoCase);
+    };
+    let first = owner_of(alloc, first)?;
+    let other = owner_of(alloc, other)?;
+    put_same(&first, &other, out)
 }
 
-/// The first of these that is a status.
-fn first_status(numbers: &[u32]) -> Option<u32> {
-    for number in numbers {
-        if OpStatus::read(*number).is_some() {
-            return Some(*number);
-        }
-    }
-    None
+fn put_same(first: &Owner, other: &Owner, out: &mut String) -> Result<(), Fault> {
+    let instance = first.instance.is_same(&other.instance);
+    let owner = first.is_same(other);
+    Ok(write!(out, "same instance {instance} same owner {owner}")?)
 }
 
-#[test]
-fn statuses_have_the_numbers_of_the_standard(rt: HostRuntime) {
-    assert_eq!(rt; first_number_otherwise(&STATUSES), None);
-    assert_eq!(rt;
-        first_status(&[1, 3, 71, 10000, 10016, 10047, u32::MAX]),
-        None
-    );
-}
-
-/// RFC 7530, 9.1.7: whether an owner goes on.
-const GOES_ON: [(OpStatus, bool); 14] = [
-    (OpStatus::Nfs4Ok, true),
-    (OpStatus::ShareDenied, true),
-    (OpStatus::NoEnt, true),
-    (OpStatus::Delay, true),
-    (OpStatus::LeaseMoved, true),
-    (OpStatus::OldStateId, true),
-    (OpStatus::StaleClientId, false),
-    (OpStatus::StaleStateId, false),
-    (OpStatus::BadStateId, false),
-    (OpStatus::BadSeqid, false),
-    (OpStatus::BadXdr, false),
-    (OpStatus::Resource, false),
-    (OpStatus::NoFileHandle, false),
-    (OpStatus::Moved, false),
-];
-
-/// The first of these that holds an owner back and shouldn't, or the other way.
-fn first_that_goes_otherwise(rows: &[(OpStatus, bool)]) -> Option<usize> {
-    for row in 0..rows.len() {
-        if rows[row].0.advances() != rows[row].1 {
-            return Some(row);
-        }
-    }
-    None
-}
-
-#[test]
-fn eight_statuses_hold_an_owner_back(rt: HostRuntime) {
-    assert_eq!(rt; first_that_goes_otherwise(&GOES_ON), None);
-}
-
-#[test]
-fn numbers_end_at_their_ranges(rt: HostRuntime) {
-    assert_eq!(rt; FsNum::new(63).map(|fs| fs.number()), Some(63));
-    assert_eq!(rt; FsNum::new(64).is_none(), true);
-    assert_eq!(rt; ServerNum::new(15).map(|server| server.number()), Some(15));
-    assert_eq!(rt; ServerNum::new(16).is_none(), true);
-    assert_eq!(rt; Epoch::new(u64::MAX).number(), u64::MAX);
-    assert_eq!(rt; MoveNum::new(1).number(), 1);
-    assert_eq!(rt; Era::new(2).number(), 2);
-}
-
-#[test]
-fn a_client_string_has_1024_bytes_at_most(rt: HostRuntime) -> Result<(), Fail> {
-    let longest = [97; 1024];
-    let instance = Instance::make(&longest, 9, ROOT)
-        .ok()
-        .ok_or("1,024 bytes fit")?;
-    assert_eq!(rt; instance.id().len(), 1024);
-    assert_eq!(rt; instance.share().is_same(&instance), true);
-    assert_eq!(rt; instance.verifier(), 9);
-    assert_eq!(rt; instance.principal(), ROOT);
-    let too_long = [97; 1025];
-    match Instance::make(&too_long, 9, ROOT) {
-        Ok(_) => assert!(rt; false, "1,025 bytes don't fit"),
-        Err(NameFault::TooLong { got }) => assert_eq!(rt; got, 1025),
-    }
-    Ok(())
-}
-
-fn instance(id: &[u8], verifier: u64, principal: Principal) -> Result<Instance, Fail> {
-    Ok(
-        Instance::make(id, verifier, principal)
-            .ok()
-            .ok_or("the string is short")?,
-    )
-}
-
-#[test]
-fn another_verifier_or_user_is_another_instance(rt: HostRuntime) -> Result<(), Fail> {
-    let first = instance(b"nfsmove/C1", 7, ROOT)?;
-    let same = [
-        first.is_same(&instance(b"nfsmove/C1", 8, ROOT)?),
-        first.is_same(&instance(b"nfsmove/C2", 7, ROOT)?),
-        first.is_same(&instance(b"nfsmove/C1", 7, Principal { flavor: 1, uid: 1 })?),
-        first.is_same(&instance(b"nfsmove/C1", 7, Principal { flavor: 0, uid: 0 })?),
-    ];
-    assert_eq!(rt; same, [false; 4]);
-    Ok(())
-}
-
-fn list_is_copied(alloc: Global) -> Result<bool, Fail> {
-    let list = Items::from_slice(alloc, &[3u64, 4])?;
+// `list NUMBERS MORE`: a list, and a copy of it with one more number.
+fn list(alloc: Global, numbers: &str, more: u32, out: &mut String) -> Result<(), Fault> {
+    let list = items_of(alloc, numbers)?;
     let mut copy = list.copy()?;
-    copy.push(5)?;
-    Ok(list.items() == [3, 4].as_slice() && copy.items() == [3, 4, 5].as_slice())
+    copy.push(more)?;
+    text::put_numbers(out, list.items())?;
+    out.push_str(" copy ")?;
+    text::put_numbers(out, copy.items())
 }
 
-fn open_row(alloc: Global) -> Result<OpenRow, Fail> {
+fn items_of(alloc: Global, numbers: &str) -> Result<Items<u32>, Fault> {
+    let numbers = text::numbers_of(alloc, numbers)?;
+    Ok(Items::from_slice(alloc, &numbers)?)
+}
+
+// `row COUNTER,SEQID,FILE,ACCESS,DENY START ID TEXT`: the parts of a copy of that row of an open.
+fn row(alloc: Global, numbers: &str, owner: [&str; 3], out: &mut String) -> Result<(), Fault> {
+    let row = row_of(alloc, numbers, &owner)?;
+    put_row(&row.copy()?, out)
+}
+
+fn row_of(alloc: Global, numbers: &str, owner: &[&str]) -> Result<OpenRow, Fault> {
+    let numbers = text::numbers_of(alloc, numbers)?;
+    let [counter, seqid, file, access, deny] = *numbers.as_slice() else {
+        return Err(Fault::NoCase);
+    };
     Ok(OpenRow {
-        counter: 1,
-        seqid: 1,
-        owner: owner(alloc, b"nfsmove/C1")?,
-        file: 16,
-        access: 3,
-        deny: 0,
+        counter: u64::from(counter),
+        seqid,
+        owner: owner_of(alloc, owner)?,
+        file: u64::from(file),
+        access,
+        deny,
     })
 }
 
-fn row_is_copied(alloc: Global) -> Result<bool, Fail> {
-    let row = open_row(alloc)?;
-    let copy = row.copy()?;
-    let numbers = (copy.counter, copy.file, copy.access, copy.deny);
-    Ok(copy.owner.is_same(&row.owner) && numbers == (1, 16, 3, 0))
+fn put_row(row: &OpenRow, out: &mut String) -> Result<(), Fault> {
+    let (counter, seqid, file) = (row.counter, row.seqid, row.file);
+    let (access, deny) = (row.access, row.deny);
+    write!(
+        out,
+        "counter {counter} seqid {seqid} file {file} access {access} deny {deny} owner "
+    )?;
+    text::put_bytes(out, row.owner.text.items())?;
+    out.push(' ')?;
+    put_instance(&row.owner.instance, out)
 }
 
-fn is_same_owner(alloc: Global, id: &[u8]) -> Result<bool, Fail> {
-    let other = owner(alloc, id)?;
-    Ok(open_row(alloc)?.owner.is_same(&other))
+// `verb KIND`: the word of an action.
+fn verb(alloc: Global, kind: &str, out: &mut String) -> Result<(), Fault> {
+    let action = action_of(alloc, kind)?;
+    put_verb(action.verb(), out)
 }
 
-#[test]
-fn lists_and_rows_are_copied(rt: HostRuntime) -> Result<(), Fail> {
-    let alloc = rt.alloc();
-    let copied = (list_is_copied(alloc)?, row_is_copied(alloc)?);
-    assert_eq!(rt; copied, (true, true));
-    assert_eq!(rt; is_same_owner(alloc, b"nfsmove/C2")?, false);
-    Ok(())
+fn action_of(alloc: Global, kind: &str) -> Result<Action, Fault> {
+    match kind {
+        "close" => Ok(Action::Close(close_action(alloc)?)),
+        "create" => Ok(Action::Create(open_action(alloc)?)),
+        "open" => Ok(Action::Open(open_action(alloc)?)),
+        _ => Err(Fault::NoCase),
+    }
 }
 
-fn open_action(alloc: Global, fs: FsNum) -> Result<OpenAction, Fail> {
+fn put_verb(verb: Verb, out: &mut String) -> Result<(), Fault> {
+    let told = match verb {
+        Verb::Close => "close",
+        Verb::Create => "create",
+        Verb::Open => "open",
+        _ => "another",
+    };
+    Ok(out.push_str(told)?)
+}
+
+fn open_action(alloc: Global) -> Result<OpenAction, Fault> {
     Ok(OpenAction {
-        fs,
+        fs: FsNum::new(0).ok_or(Fault::NoCase)?,
         file: Bytes::from_slice(alloc, b"f")?,
         access: 3,
         deny: 0,
@@ -225,34 +210,30 @@ fn open_action(alloc: Global, fs: FsNum) -> Result<OpenAction, Fail> {
     })
 }
 
-fn close_action(alloc: Global, fs: FsNum) -> Result<CloseAction, Fail> {
+fn close_action(alloc: Global) -> Result<CloseAction, Fault> {
     Ok(CloseAction {
-        fs,
+        fs: FsNum::new(0).ok_or(Fault::NoCase)?,
         file: Bytes::from_slice(alloc, b"f")?,
         owner: Bytes::from_slice(alloc, b"o")?,
     })
 }
 
-#[test]
-fn actions_have_their_words(rt: HostRuntime) -> Result<(), Fail> {
-    let alloc = rt.alloc();
-    let fs = FsNum::new(0).ok_or("0 is a file system")?;
-    let close = Action::Close(close_action(alloc, fs)?).verb();
-    let create = Action::Create(open_action(alloc, fs)?).verb();
-    let open = Action::Open(open_action(alloc, fs)?).verb();
-    assert_eq!(rt; close, Verb::Close);
-    assert_eq!(rt; (create, open), (Verb::Create, Verb::Open));
-    Ok(())
-}
-
-#[test]
-fn a_reply_is_copied(rt: HostRuntime) -> Result<(), Fail> {
-    let alloc = rt.alloc();
+// `setattr-reply WORDS`: a copy of the reply to a SETATTR that set these attributes.
+fn reply(alloc: Global, words: &str, out: &mut String) -> Result<(), Fault> {
     let reply = Reply {
         status: OpStatus::Nfs4Ok,
-        value: ReplyValue::SetAttr(Items::from_slice(alloc, &[16, 2])?),
+        value: ReplyValue::SetAttr(items_of(alloc, words)?),
         recalls: Items::new(alloc),
     };
-    assert_eq!(rt; reply.copy()? == reply, true);
-    Ok(())
+    put_reply(&reply.copy()?, out)
+}
+
+fn put_reply(reply: &Reply, out: &mut String) -> Result<(), Fault> {
+    let status = reply.status;
+    let recalls = reply.recalls.items().len();
+    write!(out, "{status:?} recalls {recalls} set ")?;
+    match &reply.value {
+        ReplyValue::SetAttr(words) => text::put_numbers(out, words.items()),
+        _ => Err(Fault::NoCase),
+    }
 }

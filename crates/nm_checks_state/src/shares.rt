@@ -1,268 +1,204 @@
-//! Opens of two owners, with expected answers from RFC 7530, 9.9, 16.16, 16.18 and 16.19.
+//! Lines of the opens of one file system.
 ghost use Rattle.std.specs.Prelude.{◌≡◌};
 ghost use Rattle.nm_rules.specs.Opens.{is_share};
 
-use nm_rules::{Bytes, FsNum, Instance, OpStatus, Owner, OwnerKind, Principal, Refusal};
+use crate::fault::Fault;
+use crate::replies::append_id;
+use crate::text::{append, append_bytes, append_debug, append_instance, append_number};
+use crate::words::{chosen, number, open_owner, small};
 use nm_shares::{Shares, State, is_share};
+use nm_types::{FsNum, Memory, OpStatus, OpenRow, Owner, Refusal, StateId};
 use std::alloc::Global;
-use std::test::Fail;
+use std::mem;
 
-// An owner: the letter of its client, and its text.
-type Who = (u8, u8);
-
-const A: Who = (b'A', b'o');
-
-const B: Who = (b'B', b'o');
-// Another owner of A's client.
-const A_TOO: Who = (b'A', b'p');
+/// The opens that lines are about, and a copy that was made of them.
+#[derive(Drop)]
+pub(crate) struct Opens {
+    now: Shares,
+    kept: Shares,
+}
 
 #[derive(Clone, Copy)]
-enum Step {
-    // An OPEN of a file with access and deny tells that counter and that seqid.
-    Opens(Who, u64, u32, u32, (u64, u32)),
-    // It conflicts.
-    Denied(Who, u64, u32, u32),
-    // The open of a counter is closed, confirmed or narrowed, and tells that seqid.
-    Closes(u64, u32),
-    Confirms(u64, u32),
-    Narrows(u64, u32, u32, u32),
-    // It can't be narrowed so.
-    Invalid(u64, u32, u32),
-    // The next counter.
-    Draws(u64),
-    // The live open of a counter has this seqid, access and deny.
-    Has(u64, u32, u32, u32),
-    // There is no live open of that counter.
-    Lacks(u64),
-    // So many opens are live.
-    Live(usize),
+enum Verb {
+    New,
+    Copy,
+    Swap,
+    Open,
+    Close,
+    Confirm,
+    Narrow,
+    Draw,
+    At,
+    Show,
 }
 
-use Step::{Closes, Confirms, Denied, Draws, Has, Invalid, Lacks, Live, Narrows, Opens};
-
-const DENIES: [Step; 8] = [
-    Opens(A, 16, 1, 2, (1, 1)),
-    Denied(B, 16, 2, 0),
-    // Another file, or no write, doesn't meet the deny.
-    Opens(B, 17, 2, 0, (2, 1)),
-    Opens(B, 16, 1, 0, (3, 1)),
-    Closes(1, 2),
-    Lacks(1),
-    Opens(B, 16, 2, 0, (3, 2)),
-    Has(3, 2, 3, 0),
+const VERBS: [(&str, Verb); 10] = [
+    ("new", Verb::New),
+    ("copy", Verb::Copy),
+    ("swap", Verb::Swap),
+    ("open", Verb::Open),
+    ("close", Verb::Close),
+    ("confirm", Verb::Confirm),
+    ("narrow", Verb::Narrow),
+    ("draw", Verb::Draw),
+    ("at", Verb::At),
+    ("show", Verb::Show),
 ];
 
-const JOINS: [Step; 5] = [
-    Opens(A, 16, 1, 2, (1, 1)),
-    // Its own deny doesn't keep it out.
-    Opens(A, 16, 2, 1, (1, 2)),
-    Has(1, 2, 3, 3),
-    Live(1),
-    // Another owner of the same client is another opener.
-    Denied(A_TOO, 16, 1, 0),
-];
-
-// A confirmation raises the seqid of its own stateid, and nothing else.
-const CONFIRMS: [Step; 5] = [
-    Opens(A, 16, 1, 2, (1, 1)),
-    Opens(A, 17, 2, 0, (2, 1)),
-    Confirms(1, 2),
-    Has(1, 2, 1, 2),
-    Has(2, 1, 2, 0),
-];
-
-// Access and deny have to be some of an open, and of this one.
-const NARROWS: [Step; 12] = [
-    Opens(A, 16, 3, 2, (1, 1)),
-    Denied(B, 16, 2, 0),
-    Invalid(1, 3, 1),
-    Invalid(1, 0, 0),
-    Invalid(1, 4, 0),
-    Invalid(1, 1, 4),
-    Has(1, 1, 3, 2),
-    Narrows(1, 1, 0, 2),
-    Has(1, 2, 1, 0),
-    Invalid(1, 2, 0),
-    Opens(B, 16, 2, 0, (2, 1)),
-    Narrows(1, 1, 0, 3),
-];
-
-const DRAWS: [Step; 4] = [
-    Opens(A, 16, 1, 0, (1, 1)),
-    Draws(2),
-    Opens(B, 16, 1, 0, (3, 1)),
-    Live(2),
-];
-
-#[test]
-fn a_deny_keeps_others_out_until_the_close(rt: HostRuntime) -> Result<(), Fail> {
-    let mut shares = no_opens(rt.alloc())?;
-    assert_eq!(rt; first_that_differs(rt.alloc(), &mut shares, &DENIES)?, None);
-    Ok(())
+// The opens of file system 0, which grants no delegations: none yet.
+fn no_opens(alloc: Global) -> Result<Shares, Memory> {
+    match FsNum::new(0) {
+        Some(fs) => Ok(Shares::new(alloc, fs, false)),
+        None => Err(Memory),
+    }
 }
 
-#[test]
-fn a_second_open_of_one_owner_joins(rt: HostRuntime) -> Result<(), Fail> {
-    let mut shares = no_opens(rt.alloc())?;
-    assert_eq!(rt; first_that_differs(rt.alloc(), &mut shares, &JOINS)?, None);
-    Ok(())
+// What a call that needs more than there is would have been.
+fn not_asked(out: &mut Vec<u8>) -> Result<(), Fault> {
+    Ok(append(out, b"not asked")?)
 }
 
-#[test]
-fn a_confirmation_raises_the_seqid(rt: HostRuntime) -> Result<(), Fail> {
-    let mut shares = no_opens(rt.alloc())?;
-    assert_eq!(rt;
-        first_that_differs(rt.alloc(), &mut shares, &CONFIRMS)?,
-        None
-    );
-    Ok(())
-}
+impl Opens {
+    /// Twice no opens.
+    pub(crate) fn new(alloc: Global) -> Result<Opens, Memory> {
+        Ok(Opens {
+            now: no_opens(alloc)?,
+            kept: no_opens(alloc)?,
+        })
+    }
 
-#[test]
-fn a_downgrade_leaves_what_it_asks_for(rt: HostRuntime) -> Result<(), Fail> {
-    let mut shares = no_opens(rt.alloc())?;
-    assert_eq!(rt;
-        first_that_differs(rt.alloc(), &mut shares, &NARROWS)?,
-        None
-    );
-    Ok(())
-}
+    /// What comes of a line, behind its first word.
+    pub(crate) fn line(&mut self, words: &[&[u8]], out: &mut Vec<u8>) -> Result<(), Fault> {
+        let [verb, args @ ..] = words else {
+            return Err(Fault::Word);
+        };
+        match (chosen(&VERBS, verb)?, args) {
+            (Verb::New, []) => self.now = no_opens(*out.allocator())?,
+            (Verb::Copy, []) => self.kept = self.now.copy()?,
+            (Verb::Swap, []) => mem::swap(&mut self.now, &mut self.kept),
+            (Verb::Draw, []) => return self.draw(out),
+            (Verb::Show, []) => return self.show(out),
+            (Verb::Open, [who, text, file, access, deny]) => {
+                let file = number(file)?;
+                let access = small(access)?;
+                let deny = small(deny)?;
+                let owner = open_owner(*out.allocator(), who, text)?;
+                return self.open(&owner, file, access, deny, out);
+            }
+            (Verb::At, [counter]) => return self.at(number(counter)?, out),
+            (verb, [counter, args @ ..]) => return self.on_open(verb, number(counter)?, args, out),
+            _ => return Err(Fault::Word),
+        }
+        Ok(append(out, verb)?)
+    }
 
-#[test]
-fn a_counter_is_drawn_once(rt: HostRuntime) -> Result<(), Fail> {
-    let mut shares = no_opens(rt.alloc())?;
-    assert_eq!(rt; first_that_differs(rt.alloc(), &mut shares, &DRAWS)?, None);
-    Ok(())
-}
+    // Opens a file, where there is room for a counter and the share is one.
+    fn open(
+        &mut self,
+        owner: &Owner,
+        file: u64,
+        access: u32,
+        deny: u32,
+        out: &mut Vec<u8>,
+    ) -> Result<(), Fault> {
+        if !is_share(access, deny) {
+            return not_asked(out);
+        }
+        if self.now.last() < 1 << 63 {
+            return append_taken(self.now.take_open(owner, file, access, deny), out);
+        }
+        not_asked(out)
+    }
 
-#[test]
-fn a_copy_has_the_same_opens(rt: HostRuntime) -> Result<(), Fail> {
-    let mut shares = no_opens(rt.alloc())?;
-    does(rt.alloc(), &mut shares, Opens(A, 16, 3, 0, (1, 1)))?;
-    let mut copy = shares.copy()?;
-    assert_eq!(rt; copy.rows(), shares.rows());
-    does(rt.alloc(), &mut copy, Closes(1, 2))?;
-    assert_eq!(rt; (copy.rows().len(), copy.last()), (0, 1));
-    // The first one keeps its own.
-    assert_eq!(rt; shares.rows().len(), 1);
-    Ok(())
-}
+    // Draws a counter, where there is room for one.
+    fn draw(&mut self, out: &mut Vec<u8>) -> Result<(), Fault> {
+        if self.now.last() < 1 << 63 {
+            return Ok(append_number(out, self.now.draw())?);
+        }
+        not_asked(out)
+    }
 
-// The first step that turns out otherwise.
-fn first_that_differs(
-    alloc: Global,
-    shares: &mut Shares,
-    steps: &[Step],
-) -> Result<Option<usize>, Fail> {
-    for at in 0..steps.len() {
-        if !does(alloc, shares, steps[at])? {
-            return Ok(Some(at));
+    // A line about the live open of a counter.
+    fn on_open(
+        &mut self,
+        verb: Verb,
+        counter: u64,
+        args: &[&[u8]],
+        out: &mut Vec<u8>,
+    ) -> Result<(), Fault> {
+        if self.now.open_at(counter).is_none() {
+            return not_asked(out);
+        }
+        match (verb, args) {
+            (Verb::Close, []) => append_state(self.now.close(counter), out),
+            (Verb::Confirm, []) => append_state(self.now.confirm(counter), out),
+            (Verb::Narrow, [access, deny]) => {
+                let access = small(access)?;
+                let deny = small(deny)?;
+                append_narrowed(self.now.downgrade(counter, access, deny), out)
+            }
+            _ => Err(Fault::Word),
         }
     }
-    Ok(None)
-}
 
-// Makes a step. Whether it turns out as it says.
-fn does(alloc: Global, shares: &mut Shares, step: Step) -> Result<bool, Fail> {
-    match step {
-        Opens(who, file, access, deny, (counter, seqid)) => {
-            let owner = owner(alloc, who)?;
-            Ok(take(shares, &owner, file, access, deny) == Some(Ok(State { counter, seqid })))
+    // The live open of a counter.
+    fn at(&self, counter: u64, out: &mut Vec<u8>) -> Result<(), Fault> {
+        match self.now.open_at(counter) {
+            Some(row) => append_open(row, out),
+            None => Ok(append(out, b"none")?),
         }
-        Denied(who, file, access, deny) => {
-            let denied = Refusal::Status(OpStatus::ShareDenied);
-            let owner = owner(alloc, who)?;
-            Ok(take(shares, &owner, file, access, deny) == Some(Err(denied)))
+    }
+
+    fn show(&self, out: &mut Vec<u8>) -> Result<(), Fault> {
+        append_number(out, self.now.rows().len() as u64)?;
+        append(out, b" open last ")?;
+        append_number(out, self.now.last())?;
+        for row in self.now.rows() {
+            append(out, b"; ")?;
+            append_open(row, out)?;
         }
-        _ => Ok(changes(shares, step)),
+        Ok(())
     }
 }
 
-// Makes a step without an owner.
-fn changes(shares: &mut Shares, step: Step) -> bool {
-    match step {
-        Closes(counter, seqid) => close(shares, counter) == Some(State { counter, seqid }),
-        Confirms(counter, seqid) => confirm(shares, counter) == Some(State { counter, seqid }),
-        Narrows(counter, access, deny, seqid) => {
-            narrow(shares, counter, access, deny) == Some(Ok(State { counter, seqid }))
-        }
-        Invalid(counter, access, deny) => {
-            narrow(shares, counter, access, deny) == Some(Err(OpStatus::Inval))
-        }
-        Draws(counter) => draw(shares) == Some(counter),
-        Has(counter, seqid, access, deny) => match shares.open_at(counter) {
-            Some(row) => (row.seqid, row.access, row.deny) == (seqid, access, deny),
-            None => false,
-        },
-        Lacks(counter) => shares.open_at(counter).is_none(),
-        Live(count) => shares.rows().len() == count,
-        Opens(..) | Denied(..) => false,
+fn append_taken(taken: Result<State, Refusal>, out: &mut Vec<u8>) -> Result<(), Fault> {
+    match taken {
+        Ok(state) => append_state(state, out),
+        Err(Refusal::Status(status)) => Ok(append_debug(out, &status)?),
+        Err(Refusal::Memory) => Err(Fault::Memory),
     }
 }
 
-// Takes an open, where there is room for one and the share is one.
-fn take(
-    shares: &mut Shares,
-    owner: &Owner,
-    file: u64,
-    access: u32,
-    deny: u32,
-) -> Option<Result<State, Refusal>> {
-    if !is_share(access, deny) {
-        return None;
+fn append_narrowed(narrowed: Result<State, OpStatus>, out: &mut Vec<u8>) -> Result<(), Fault> {
+    match narrowed {
+        Ok(state) => append_state(state, out),
+        Err(status) => Ok(append_debug(out, &status)?),
     }
-    if shares.last() < 1 << 63 {
-        return Some(shares.take_open(owner, file, access, deny));
-    }
-    None
 }
 
-// Draws a counter, where there is room for one.
-fn draw(shares: &mut Shares) -> Option<u64> {
-    if shares.last() < 1 << 63 {
-        return Some(shares.draw());
-    }
-    None
+fn append_state(state: State, out: &mut Vec<u8>) -> Result<(), Fault> {
+    let stateid = StateId {
+        seqid: state.seqid,
+        fs: 0,
+        counter: state.counter,
+    };
+    Ok(append_id(out, stateid)?)
 }
 
-// Closes, confirms or narrows the open of that counter, where it is live.
-fn close(shares: &mut Shares, counter: u64) -> Option<State> {
-    if shares.open_at(counter).is_some() {
-        return Some(shares.close(counter));
-    }
-    None
-}
-
-fn confirm(shares: &mut Shares, counter: u64) -> Option<State> {
-    if shares.open_at(counter).is_some() {
-        return Some(shares.confirm(counter));
-    }
-    None
-}
-
-fn narrow(
-    shares: &mut Shares,
-    counter: u64,
-    access: u32,
-    deny: u32,
-) -> Option<Result<State, OpStatus>> {
-    if shares.open_at(counter).is_some() {
-        return Some(shares.downgrade(counter, access, deny));
-    }
-    None
-}
-
-fn owner(alloc: Global, who: Who) -> Result<Owner, Fail> {
-    let principal = Principal { flavor: 1, uid: 0 };
-    Ok(Owner {
-        instance: Instance::make(&[who.0], 7, principal)
-            .ok()
-            .ok_or("the string is short")?,
-        kind: OwnerKind::Opens,
-        text: Bytes::from_slice(alloc, &[who.1])?,
-    })
-}
-
-fn no_opens(alloc: Global) -> Result<Shares, Fail> {
-    Ok(Shares::new(alloc, FsNum::new(0).ok_or("0 is a file system")?, false))
+fn append_open(row: &OpenRow, out: &mut Vec<u8>) -> Result<(), Fault> {
+    let state = State {
+        counter: row.counter,
+        seqid: row.seqid,
+    };
+    append_state(state, out)?;
+    append(out, b" ")?;
+    append_instance(out, &row.owner.instance)?;
+    append(out, b" ")?;
+    append_bytes(out, row.owner.text.items())?;
+    append(out, b" ")?;
+    append_number(out, row.file)?;
+    append(out, b" ")?;
+    append_number(out, u64::from(row.access))?;
+    append(out, b" ")?;
+    Ok(append_number(out, u64::from(row.deny))?)
 }

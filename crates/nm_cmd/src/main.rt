@@ -5,10 +5,8 @@
 mod replay;
 mod standard;
 mod status;
-#[cfg(test)]
-mod tests;
 
-use nm_rules::Memory;
+use nm_types::Memory;
 pub use replay::{Answer, replay};
 use standard::{StandardInput, StandardOutput};
 pub use status::Status;

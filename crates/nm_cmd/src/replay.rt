@@ -8,15 +8,15 @@ ghost use Rattle.nm_short.specs.ShortRun.{short_run};
 ghost use Rattle.nm_cmd.specs.Replay.{are_replay, ran_of, IsAnswer, IsReplayed, IsTurnedAway, IsCutShort, IsUsageOrWriteFault};
 
 use crate::Status;
-use nm_rules::Memory;
 use nm_script::{
     ReadAllFault, ScriptFault, Sink, Source, fault_text, read_all, read_script, write_all,
 };
 use nm_short::text_of_run;
+use nm_types::Memory;
 use std::alloc::Global;
 
 /// The answer to a source's bytes.
-#[derive(Debug, Drop)]
+#[derive(Drop)]
 pub enum Answer {
     /// They are a script: the text of its run.
     Ran(Vec<u8>),

@@ -5,10 +5,10 @@ use Rattle.std.proofs.lemmas.Bool.Decides.{nat_tests}
 use Rattle.nm_rules.specs.Answer.{answer_to, IsLegal}
 use Rattle.nm_rules.specs.Past.{Past}
 use Rattle.nm_rules.specs.Seen.{Seen, seen, after}
-use Rattle.nm_rules.specs.declared.calls.Entry.{Entry}
-use Rattle.nm_rules.specs.declared.calls.Reply.{Reply}
+use Rattle.nm_types.specs.declared.calls.Entry.{Entry}
+use Rattle.nm_types.specs.declared.calls.Reply.{Reply}
 use Rattle.nm_state.specs.State.{StateNow, Applies}
-use Rattle.nm_rules.specs.Parties.{Party}
+use Rattle.nm_types.specs.Parties.{Party}
 use Rattle.nm_journal.specs.Journals.{AreAnswered, after_entry, after_entries, with_entries, halved, end_of}
 
 pub legal_with : (fs : ℕ) (grants : Bool) (es : Past) (xs : List Entry) → IsLegal fs grants es → AreAnswered (seen fs grants es) xs

@@ -1,13 +1,13 @@
 -- The latest entries of a file system at a server, one by one, and the tables before the first of them.
 use Rattle.std.specs.Prelude.{◌≡◌, ◌+◌, ◌-◌, ◌/◌, ◌^◌, ℕ, zero, suc, Bool, nat_le, min, length, take, drop, map, List, [], ◌∷◌, ◌++◌, if◌then◌else◌}
 use Rattle.nm_rules.specs.Answer.{answer_to, reply_with}
-use Rattle.nm_rules.specs.Parties.{Party}
+use Rattle.nm_types.specs.Parties.{Party}
 use Rattle.nm_rules.specs.Past.{Past}
 use Rattle.nm_rules.specs.Seen.{Seen, after}
-use Rattle.nm_rules.specs.declared.calls.Entry.{Entry}
-use Rattle.nm_rules.specs.declared.calls.Event.TheVariants.{Ended}
-use Rattle.nm_rules.specs.declared.calls.ReplyValue.TheVariants as told
-use Rattle.nm_rules.specs.declared.status.OpStatus.TheVariants.{Nfs4Ok}
+use Rattle.nm_types.specs.declared.calls.Entry.{Entry}
+use Rattle.nm_types.specs.declared.calls.Event.TheVariants.{Ended}
+use Rattle.nm_types.specs.declared.calls.ReplyValue.TheVariants as told
+use Rattle.nm_types.specs.declared.status.OpStatus.TheVariants.{Nfs4Ok}
 
 pub record JournalNow : Type 0 where
   -- at most so many entries are kept one by one

@@ -4,19 +4,29 @@ ghost use Rattle.std.specs.Vec.{vec_capacity};
 ghost use Rattle.nm_rules.specs.Answer.{answer_to};
 ghost use Rattle.nm_journal.specs.Journals.{AreAnswered, after_entries, tables_now, left_of, halved, counted, folded_by, with_room, end_of, with_ends};
 
-use nm_rules::{Entry, Event, Instance, Items, Memory, OpStatus, Reply, ReplyValue};
 use nm_state::FsState;
+use nm_types::{Entry, Event, Instance, Items, Memory, OpStatus, Reply, ReplyValue};
 use std::alloc::Global;
 use std::marker::Model;
 
 /// The latest entries of a file system at a server, one by one, and the state before the first of them. Contracts see the tables of
 /// that state, the entries, how many have gone into it, and how many more can be added without memory.
-#[derive(Debug, Drop)]
 pub struct Journal {
     keep: u32,
     base: FsState,
     entries: Vec<Entry>,
     folded: u64,
+}
+
+impl Drop for Journal {
+    fn drop(self) {
+        let Journal {
+            keep: _,
+            base: _,
+            entries: _,
+            folded: _,
+        } = self;
+    }
 }
 
 impl Model for Journal {
@@ -204,6 +214,12 @@ impl Journal {
     pub fn into_entries(self) -> Vec<Entry>
         ensures { result.items ≡ self.entries }
     {
-        self.entries
+        let Journal {
+            keep: _,
+            base: _,
+            entries,
+            folded: _,
+        } = self;
+        entries
     }
 }

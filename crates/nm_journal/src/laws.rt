@@ -3,7 +3,7 @@ ghost use Rattle.std.specs.Prelude.{◌≡◌, ℕ, Bool, List};
 ghost use Rattle.nm_rules.specs.Answer.{IsLegal};
 ghost use Rattle.nm_rules.specs.Past.{Past};
 ghost use Rattle.nm_rules.specs.Seen.{Seen, seen};
-ghost use Rattle.nm_rules.specs.declared.calls.Entry.{Entry};
+ghost use Rattle.nm_types.specs.declared.calls.Entry.{Entry};
 ghost use Rattle.nm_journal.specs.Journals.{AreAnswered, after_entries, with_entries};
 
 /// Where the base stands for a legal list, this list and the entries that are kept are a legal list, and the tables are its.

@@ -6,6 +6,3 @@ mod laws;
 
 pub use journal::Journal;
 pub use laws::journals_are_legal;
-
-#[cfg(test)]
-mod tests;

@@ -3,9 +3,9 @@ use Rattle.std.proofs.Common.{◌≡◌, ◌<◌, ℕ, ◌+◌, Bool, true, fals
 use Rattle.std.specs.Prelude.{not, nat_lt}
 use Rattle.std.specs.List.{position, position_or_len}
 use Rattle.std.proofs.lemmas.Bool.Decides.{nat_tests}
-use Rattle.nm_rules.specs.Owners.{same_owner}
+use Rattle.nm_types.specs.Owners.{same_owner}
 use Rattle.nm_rules.specs.Seqids.{put_owner}
-use Rattle.nm_rules.specs.declared.owners.OwnerRow.{OwnerRow}
+use Rattle.nm_types.specs.declared.owners.OwnerRow.{OwnerRow}
 use Rattle.nm_owners.specs.Rows.{is_of}
 
 put_at : (row : OwnerRow) (rows : List OwnerRow) → position_or_len (is_of row.owner) rows < length rows

@@ -1,14 +1,14 @@
 -- What `Owners` keeps, and what each call makes of it.
 use Rattle.std.specs.Prelude.{ℕ, Bool, not, List, [], filter}
-use Rattle.nm_rules.specs.Parties.{Party}
-use Rattle.nm_rules.specs.Owners.{same_owner}
+use Rattle.nm_types.specs.Parties.{Party}
+use Rattle.nm_types.specs.Owners.{same_owner}
 use Rattle.nm_rules.specs.Past.{noted_row}
 use Rattle.nm_rules.specs.Seqids.{owner_at, put_owner, owners_after}
 use Rattle.nm_rules.specs.Seqids.OwnerWord.{GoneOf}
-use Rattle.nm_rules.specs.declared.calls.Call.{Call}
-use Rattle.nm_rules.specs.declared.calls.Owner.{Owner}
-use Rattle.nm_rules.specs.declared.calls.Reply.{Reply}
-use Rattle.nm_rules.specs.declared.owners.OwnerRow.{OwnerRow}
+use Rattle.nm_types.specs.declared.calls.Call.{Call}
+use Rattle.nm_types.specs.declared.calls.Owner.{Owner}
+use Rattle.nm_types.specs.declared.calls.Reply.{Reply}
+use Rattle.nm_types.specs.declared.owners.OwnerRow.{OwnerRow}
 
 -- The owners of one file system that are known, in the order in which they came.
 pub record OwnersNow : Type 0 where

@@ -5,5 +5,5 @@
 mod owners;
 mod rows;
 
-pub use nm_rules::Judgement;
+pub use nm_types::Judgement;
 pub use owners::Owners;

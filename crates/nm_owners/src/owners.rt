@@ -5,13 +5,13 @@ ghost use Rattle.nm_rules.specs.Seqids.{is_confirmed, judged, owner_at, owners_a
 ghost use Rattle.nm_owners.specs.Rows.{no_owners, after_note, after_forget, after_end};
 
 use crate::rows::{confirmed, copy_rows, drop_of, drop_owner, find, judge, kept, note};
-use nm_rules::{Call, Instance, Judgement, Memory, Owner, OwnerRow, Reply};
+use nm_types::{Call, Instance, Judgement, Memory, Owner, OwnerRow, Reply};
 use std::alloc::Global;
 use std::marker::Model;
 
 /// The owners of one file system that are known, in the order in which they came. An owner becomes known by its first
 /// operation that moves it on (RFC 7530, 9.1.7).
-#[derive(Debug, Drop)]
+#[derive(Drop)]
 pub struct Owners {
     rows: Vec<OwnerRow>,
 }

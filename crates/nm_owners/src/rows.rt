@@ -1,12 +1,12 @@
 //! Work on a list of owners.
 ghost use Rattle.std.specs.Prelude.{◌≡◌, [], ◌∷◌, IfOk, OnOk, OnErr, filter, not, option_copied, option_map, position};
-ghost use Rattle.nm_rules.specs.Owners.{same_owner};
+ghost use Rattle.nm_types.specs.Owners.{same_owner};
 ghost use Rattle.nm_rules.specs.Past.{noted_row, confirms};
 ghost use Rattle.nm_rules.specs.Seqids.{is_confirmed, judged, without_recalls, owner_at, put_owner, owners_after};
 ghost use Rattle.nm_rules.specs.Seqids.OwnerWord.{GoneOf};
 ghost use Rattle.nm_owners.specs.Rows.{is_of};
 
-use nm_rules::{Call, Deed, Instance, Items, Judgement, Memory, OpStatus, Owner, OwnerRow, Reply};
+use nm_types::{Call, Deed, Instance, Items, Judgement, Memory, OpStatus, Owner, OwnerRow, Reply};
 use std::alloc::Global;
 
 /// What is kept of an owner.
@@ -23,7 +23,7 @@ pub fn judge(rows: &[OwnerRow], owner: &Owner, seqid: u32, call: &Call) -> Judge
     ensures { result ≡ judged (owner_at owner.now rows.now) seqid call.now.caller call.now.file call.now.deed }
 {
     match find(rows, owner) {
-        Some(row) => row.judge(seqid, call),
+        Some(row) => nm_rules::judge(row, seqid, call),
         None => Judgement::Unknown,
     }
 }

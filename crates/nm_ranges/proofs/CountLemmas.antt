@@ -4,8 +4,8 @@ use Rattle.std.proofs.Common.{◌<◌, take, get_or}
 use Rattle.std.proofs.lemmas.List.{take_all}
 use Rattle.std.specs.Prelude.{◌==◌, ◌&&◌, ◌||◌}
 use Rattle.nm_rules.specs.Locks.{cleared, cut, is_before, joined, joined_after, put_range, same_lock, set_to, touches}
-use Rattle.nm_rules.specs.declared.results.LockKind.{LockKind}
-use Rattle.nm_rules.specs.declared.rows.Held.{Held}
+use Rattle.nm_types.specs.declared.results.LockKind.{LockKind}
+use Rattle.nm_types.specs.declared.rows.Held.{Held}
 use Rattle.nm_rules.proofs.RangeRows.{touches_parts}
 use Rattle.nm_ranges.specs.Counts.{came, goes_on, none_yet, one_more, took, took_all, took_with, total, total_with}
 use Rattle.nm_ranges.proofs.RowLemmas.{cleared_more}

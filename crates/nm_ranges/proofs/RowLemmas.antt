@@ -7,8 +7,8 @@ use Rattle.std.specs.List.{position, position_or_len}
 use Rattle.std.proofs.lemmas.Bool.Decides.{nat_tests}
 use Rattle.nm_rules.specs.Locks.{IsJoined, barrier, barrier_with, cleared, cut, dropped, is_before, joined, joined_after, put_range, set_to}
 use Rattle.nm_rules.proofs.RangeApart.{cleared_joined, dropped_joined, set_joined}
-use Rattle.nm_rules.specs.declared.results.LockKind.{LockKind}
-use Rattle.nm_rules.specs.declared.rows.Held.{Held}
+use Rattle.nm_types.specs.declared.results.LockKind.{LockKind}
+use Rattle.nm_types.specs.declared.rows.Held.{Held}
 use Rattle.nm_ranges.specs.Rows.{RangesNow, joined_from, stays_behind}
 
 -- one row more, from the end

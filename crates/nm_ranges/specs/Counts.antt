@@ -1,7 +1,7 @@
 -- How many rows there are, counted as they come, where neighbours that touch are one.
 use Rattle.std.specs.Prelude.{ℕ, ◌+◌, Bool, false, List, [], ◌∷◌, Option, Some, None, if◌then◌else◌}
 use Rattle.nm_rules.specs.Locks.{is_before, touches}
-use Rattle.nm_rules.specs.declared.rows.Held.{Held}
+use Rattle.nm_types.specs.declared.rows.Held.{Held}
 use Rattle.nm_ranges.specs.declared.counts.Counting.{Counting}
 
 -- the row touches the one that came last

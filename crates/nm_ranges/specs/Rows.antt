@@ -1,8 +1,8 @@
 -- What `Ranges` keeps, and what each call makes of it.
 use Rattle.std.specs.Prelude.{ℕ, Bool, not, List, [], ◌∷◌, Option, Some, None}
 use Rattle.nm_rules.specs.Locks.{cleared, dropped, is_before, joined, joined_after, set_to}
-use Rattle.nm_rules.specs.declared.results.LockKind.{LockKind}
-use Rattle.nm_rules.specs.declared.rows.Held.{Held}
+use Rattle.nm_types.specs.declared.results.LockKind.{LockKind}
+use Rattle.nm_types.specs.declared.rows.Held.{Held}
 
 -- The ranges of one file that are held, by rising owner, and of one owner by rising first byte.
 pub record RangesNow : Type 0 where

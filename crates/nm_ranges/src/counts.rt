@@ -1,11 +1,11 @@
 //! How many rows a change would leave.
 ghost use Rattle.std.specs.Prelude.{◌≡◌, ◌≤◌, ◌<◌, ◌+◌, ◌^◌, ◌*◌, ◌++◌, ◌∷◌, [], ℕ, List, length};
 ghost use Rattle.nm_rules.specs.Locks.{before_of, behind_of, cleared, cut, set_to};
-ghost use Rattle.nm_rules.specs.declared.rows.Held.{Held as AnyHeld};
+ghost use Rattle.nm_types.specs.declared.rows.Held.{Held as AnyHeld};
 ghost use Rattle.nm_ranges.specs.Counts.{came, goes_on, none_yet, one_more, took, took_all, total};
 
 use crate::pairs::{is_before, is_cut, touches};
-use nm_rules::Held;
+use nm_types::Held;
 
 // How many rows an owner's row leaves, once its lock is taken off a range.
 fn count_cut(row: &Held, owner: u64, first: u64, last: u64) -> usize
@@ -33,7 +33,7 @@ pub fn count_cleared(rows: &[Held], owner: u64, first: u64, last: u64) -> usize
 }
 
 // Rows that came one after another, with a row that is still to come in its place among them.
-#[derive(Clone, Copy, Debug)]
+#[derive(Clone, Copy)]
 struct Counting {
     // How many they are, where neighbours that touch are one.
     count: usize,

@@ -7,5 +7,5 @@ mod pairs;
 mod ranges;
 mod rows;
 
-pub use nm_rules::Held;
+pub use nm_types::Held;
 pub use ranges::Ranges;

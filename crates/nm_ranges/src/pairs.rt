@@ -2,7 +2,7 @@
 ghost use Rattle.std.specs.Prelude.{◌≡◌, ◌==◌, ◌&&◌, ◌+◌};
 ghost use Rattle.nm_rules.specs.Locks.{is_before, is_in_way, is_write, kinds_conflict, overlaps, same_lock, touches};
 
-use nm_rules::{Held, LockKind};
+use nm_types::{Held, LockKind};
 
 // Whether the lock is for writing.
 fn is_write(kind: LockKind) -> bool

@@ -5,7 +5,7 @@ ghost use Rattle.nm_ranges.specs.Rows.{after_clear, after_drop, after_set, no_ra
 
 use crate::counts::{count_cleared, count_set};
 use crate::rows::{barrier, clear_rows, copy_rows, drop_owner, holds, set_rows};
-use nm_rules::{Held, LockKind, Memory};
+use nm_types::{Held, LockKind, Memory};
 use std::alloc::Global;
 use std::marker::Model;
 
@@ -13,7 +13,7 @@ use std::marker::Model;
 /// An owner is the counter of its lock stateid. The rows of one owner share no byte, and where two of one kind touch they are one.
 /// No two owners hold conflicting locks at a byte (RFC 7530, 9.2). A range goes from its first byte to its last, which is at least
 /// the first; the byte 2^64 - 1 is one like any other.
-#[derive(Debug, Drop)]
+#[derive(Drop)]
 pub struct Ranges {
     rows: Vec<Held>,
 }

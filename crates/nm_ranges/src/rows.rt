@@ -1,11 +1,11 @@
 //! Work on a list of ranges.
 ghost use Rattle.std.specs.Prelude.{◌≡◌, ◌++◌, ◌∷◌, [], List, Option, None, Some, IfOk, OnOk, OnErr, ◌≤◌, insert, length, position};
 ghost use Rattle.nm_rules.specs.Locks.{barrier, barrier_with, before_of, behind_of, cleared, cut, dropped, holds, joined, joined_after, met, nearest, put_range, set_to};
-ghost use Rattle.nm_rules.specs.declared.rows.Held.{Held as AnyHeld};
+ghost use Rattle.nm_types.specs.declared.rows.Held.{Held as AnyHeld};
 ghost use Rattle.nm_ranges.specs.Rows.{joined_from, stays_behind};
 
 use crate::pairs::{is_before, is_cut, is_in_way, touches};
-use nm_rules::{Held, Memory};
+use nm_types::{Held, Memory};
 use std::alloc::Global;
 
 // The least byte from there on that a row has, where it has one.

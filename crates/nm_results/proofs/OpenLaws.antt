@@ -7,9 +7,9 @@ use Rattle.nm_xdr.specs.Items.{word, hyper, flag, opaque}
 use Rattle.nm_xdr.proofs.FieldLaws.{IsBytes-behind, bind_ok, same_value, tested_item, fits_as}
 use Rattle.nm_xdr.proofs.ItemLaws.{word_item, hyper_item, flag_item, opaque_item}
 use Rattle.nm_attrs.proofs.ValueLaws.{bitmap_item}
-use Rattle.nm_rules.specs.declared.calls.StateId.{StateId}
-use Rattle.nm_rules.specs.declared.results.OpenDelegation.{OpenDelegation}
-use Rattle.nm_rules.specs.declared.results.OpenDelegation.TheVariants as delegation
+use Rattle.nm_types.specs.declared.calls.StateId.{StateId}
+use Rattle.nm_types.specs.declared.results.OpenDelegation.{OpenDelegation}
+use Rattle.nm_types.specs.declared.results.OpenDelegation.TheVariants as delegation
 use Rattle.nm_results.specs.Parts.{stateid, IsStateId}
 use Rattle.nm_results.specs.Opens.{Ace, ace, IsAce, ace_behind, AnyDelegation, none, reads, writes, delegation_bytes, IsAnyDelegation, delegation_of, only_at, reads_at, writes_at, kind_at, delegation_as, delegation_at, AnyOpen, open_bytes, open_at, open_of, IsAnyOpen}
 use Rattle.nm_results.proofs.KeepLaws.{KeepsItem, keeps_made, keeps_field, keeps_item, keeps_record, keeps_as}

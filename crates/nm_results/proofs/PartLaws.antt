@@ -8,13 +8,13 @@ use Rattle.nm_xdr.specs.Items.{word, hyper, flag, opaque, word_at, hyper_at, fla
 use Rattle.nm_xdr.proofs.FieldLaws.{field_part, made_part, record_item, spelled_as, fits_as, bind_ok, same_value}
 use Rattle.nm_xdr.proofs.ItemLaws.{word_item, hyper_item, flag_item, opaque_item}
 use Rattle.nm_attrs.proofs.ValueLaws.{bitmap_item}
-use Rattle.nm_rules.specs.declared.calls.StateId.{StateId}
-use Rattle.nm_rules.specs.declared.results.ChangeInfo.{ChangeInfo}
-use Rattle.nm_rules.specs.declared.results.AccessOk.{AccessOk}
-use Rattle.nm_rules.specs.declared.results.ReadOk.{ReadOk}
-use Rattle.nm_rules.specs.declared.results.WriteOk.{WriteOk}
-use Rattle.nm_rules.specs.declared.results.LockKind.{LockKind}
-use Rattle.nm_rules.specs.declared.args.Fattr.{Fattr}
+use Rattle.nm_types.specs.declared.calls.StateId.{StateId}
+use Rattle.nm_types.specs.declared.results.ChangeInfo.{ChangeInfo}
+use Rattle.nm_types.specs.declared.results.AccessOk.{AccessOk}
+use Rattle.nm_types.specs.declared.results.ReadOk.{ReadOk}
+use Rattle.nm_types.specs.declared.results.WriteOk.{WriteOk}
+use Rattle.nm_types.specs.declared.results.LockKind.{LockKind}
+use Rattle.nm_types.specs.declared.args.Fattr.{Fattr}
 use Rattle.nm_results.specs.declared.values.SetClientIdOk.{SetClientIdOk}
 use Rattle.nm_results.specs.declared.values.ClientAddress.{ClientAddress}
 use Rattle.nm_results.specs.Parts.{enough, or_missing, bytes_at, other, other_at, stateid, stateid_at, IsStateId, AnyChange, change, change_at, IsChange, fattr, fattr_at, IsFattr}

@@ -6,8 +6,8 @@ use Rattle.nm_xdr.specs.Fields.{enum, Fault, Reading, ◌>>=◌, field, made, te
 use Rattle.nm_xdr.specs.Items.{word, opaque, counted_at, opaque_at, length_at}
 use Rattle.nm_xdr.proofs.FieldLaws.{IsBytes-behind, bind_ok, same_value, tested_item, fits_as}
 use Rattle.nm_xdr.proofs.ItemLaws.{word_item, length_item, opaque_item}
-use Rattle.nm_rules.specs.declared.status.OpStatus.{OpStatus}
-use Rattle.nm_rules.specs.Statuses.{number_of}
+use Rattle.nm_types.specs.declared.status.OpStatus.{OpStatus}
+use Rattle.nm_types.specs.Statuses.{number_of}
 use Rattle.nm_results.specs.declared.arms.Arm.{Arm}
 use Rattle.nm_results.specs.declared.values.ResultValue.{ResultValue}
 use Rattle.nm_results.specs.declared.values.OpResult.{OpResult}

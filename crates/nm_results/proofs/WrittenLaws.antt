@@ -5,11 +5,11 @@ use Rattle.std.proofs.lemmas.List.Elements.{All-from_recursion, recursion_from_A
 use Rattle.std.specs.List.{AllByRecursion, flat_map}
 use Rattle.nm_xdr.specs.Fields.{IsBytes}
 use Rattle.nm_xdr.specs.Items.{word, opaque}
-use Rattle.nm_rules.specs.Statuses.{number_of}
-use Rattle.nm_rules.specs.declared.results.OpenDelegation.{OpenDelegation}
-use Rattle.nm_rules.specs.declared.results.OpenDelegation.TheVariants as delegation
-use Rattle.nm_rules.specs.declared.results.LockKind.{LockKind}
-use Rattle.nm_rules.specs.declared.results.LockKind.TheVariants as kind
+use Rattle.nm_types.specs.Statuses.{number_of}
+use Rattle.nm_types.specs.declared.results.OpenDelegation.{OpenDelegation}
+use Rattle.nm_types.specs.declared.results.OpenDelegation.TheVariants as delegation
+use Rattle.nm_types.specs.declared.results.LockKind.{LockKind}
+use Rattle.nm_types.specs.declared.results.LockKind.TheVariants as kind
 use Rattle.nm_results.specs.declared.values.ResultValue.{ResultValue}
 use Rattle.nm_results.specs.declared.values.ResultValue.TheVariants as value
 use Rattle.nm_results.specs.declared.values.OpResult.{OpResult}

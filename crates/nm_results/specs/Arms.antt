@@ -1,7 +1,7 @@
 -- Which value a result has, by its operation and its status (RFC 7530, 16; RFC 7531, nfs_resop4).
 use Rattle.std.specs.Prelude.{ℕ, Bool, ◌==◌, ◌&&◌, ◌||◌, nat_le, List, [], ◌∷◌, Option, Some, None, find, if◌then◌else◌}
-use Rattle.nm_rules.specs.declared.status.OpStatus.{OpStatus}
-use Rattle.nm_rules.specs.declared.status.OpStatus.TheVariants.{Nfs4Ok, Denied, ClidInUse, OpIllegal}
+use Rattle.nm_types.specs.declared.status.OpStatus.{OpStatus}
+use Rattle.nm_types.specs.declared.status.OpStatus.TheVariants.{Nfs4Ok, Denied, ClidInUse, OpIllegal}
 use Rattle.nm_results.specs.declared.arms.Arm.{Arm}
 use Rattle.nm_results.specs.declared.arms.Arm.TheVariants as arm
 

@@ -4,7 +4,7 @@ use Rattle.std.specs.List.{flat_map}
 use Rattle.nm_xdr.specs.Fields.{short, Fault, Reading, ◌>>=◌, fault_at, field, made}
 use Rattle.nm_xdr.specs.Items.{hyper, flag, opaque, structure, hyper_at, flag_at, optional_at}
 use Rattle.nm_attrs.specs.Bitmaps.{bitmap, bitmap_at, IsBitmap}
-use Rattle.nm_rules.specs.declared.results.CreateOk.{CreateOk}
+use Rattle.nm_types.specs.declared.results.CreateOk.{CreateOk}
 use Rattle.nm_results.specs.declared.values.DirEntry.{DirEntry}
 use Rattle.nm_results.specs.declared.values.ReadDirOk.{ReadDirOk}
 use Rattle.nm_results.specs.Parts.{bytes_at, AnyChange, change, change_at, IsChange, written_change, fattr, fattr_at, IsFattr}

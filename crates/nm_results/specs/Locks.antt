@@ -2,8 +2,8 @@
 use Rattle.std.specs.Prelude.{ℕ, ◌^◌, ◌<◌, ◌≤◌, ◌==◌, ◌||◌, List, [], ◌∷◌, ◌++◌, length, Option, Some, None, if◌then◌else◌}
 use Rattle.nm_xdr.specs.Fields.{Reading, ◌>>=◌, field, made}
 use Rattle.nm_xdr.specs.Items.{word, hyper, opaque, structure, word_at, hyper_at, enum_at}
-use Rattle.nm_rules.specs.declared.results.LockKind.{LockKind}
-use Rattle.nm_rules.specs.declared.results.LockKind.TheVariants as kind
+use Rattle.nm_types.specs.declared.results.LockKind.{LockKind}
+use Rattle.nm_types.specs.declared.results.LockKind.TheVariants as kind
 use Rattle.nm_results.specs.declared.values.LockDenied.{LockDenied}
 use Rattle.nm_results.specs.Parts.{bytes_at}
 

@@ -3,11 +3,11 @@ use Rattle.std.specs.Prelude.{◌≡◌, ℕ, ◌^◌, ◌<◌, ◌≤◌, Bool,
 use Rattle.nm_xdr.specs.Fields.{enum, Reading, ◌>>=◌, field, made, tested}
 use Rattle.nm_xdr.specs.Items.{word, hyper, flag, opaque, structure, union, word_at, hyper_at, flag_at}
 use Rattle.nm_attrs.specs.Bitmaps.{bitmap, bitmap_at, IsBitmap}
-use Rattle.nm_rules.specs.declared.calls.StateId.{StateId}
-use Rattle.nm_rules.specs.declared.results.ChangeInfo.{ChangeInfo}
-use Rattle.nm_rules.specs.declared.results.OpenOk.{OpenOk}
-use Rattle.nm_rules.specs.declared.results.OpenDelegation.{OpenDelegation}
-use Rattle.nm_rules.specs.declared.results.OpenDelegation.TheVariants as delegation
+use Rattle.nm_types.specs.declared.calls.StateId.{StateId}
+use Rattle.nm_types.specs.declared.results.ChangeInfo.{ChangeInfo}
+use Rattle.nm_types.specs.declared.results.OpenOk.{OpenOk}
+use Rattle.nm_types.specs.declared.results.OpenDelegation.{OpenDelegation}
+use Rattle.nm_types.specs.declared.results.OpenDelegation.TheVariants as delegation
 use Rattle.nm_results.specs.Parts.{bytes_at, stateid, stateid_at, IsStateId, AnyChange, change, change_at, IsChange, written_change}
 
 -- ---- Delegations (open_delegation4)

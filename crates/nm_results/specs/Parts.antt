@@ -3,9 +3,9 @@ use Rattle.std.specs.Prelude.{ℕ, ◌^◌, ◌<◌, ◌≤◌, Bool, true, nat_
 use Rattle.nm_xdr.specs.Fields.{short, Fault, Reading, ◌>>=◌, fault_at, field, made}
 use Rattle.nm_xdr.specs.Items.{word, hyper, flag, opaque, structure, word_at, hyper_at, flag_at, opaque_at}
 use Rattle.nm_attrs.specs.Bitmaps.{bitmap, bitmap_at, IsBitmap}
-use Rattle.nm_rules.specs.declared.calls.StateId.{StateId}
-use Rattle.nm_rules.specs.declared.results.ChangeInfo.{ChangeInfo}
-use Rattle.nm_rules.specs.declared.args.Fattr.{Fattr}
+use Rattle.nm_types.specs.declared.calls.StateId.{StateId}
+use Rattle.nm_types.specs.declared.results.ChangeInfo.{ChangeInfo}
+use Rattle.nm_types.specs.declared.args.Fattr.{Fattr}
 
 -- Where fewer than n bytes are left, all of the item is missing.
 abbrev pub enough : {X : Type 0} → ℕ → Reading X → Reading X

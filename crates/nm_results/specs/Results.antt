@@ -6,8 +6,8 @@ use Rattle.nm_xdr.specs.Items.{word, opaque, counted, structure, word_at, counte
 use Rattle.nm_xdr.specs.Places.{place_of}
 use Rattle.nm_attrs.specs.declared.fault.ReadFault.{ReadFault}
 use Rattle.nm_attrs.specs.declared.fault.ReadFault.TheVariants as item
-use Rattle.nm_rules.specs.declared.status.OpStatus.{OpStatus}
-use Rattle.nm_rules.specs.Statuses.{number_of, status_of}
+use Rattle.nm_types.specs.declared.status.OpStatus.{OpStatus}
+use Rattle.nm_types.specs.Statuses.{number_of, status_of}
 use Rattle.nm_results.specs.declared.arms.Arm.{Arm}
 use Rattle.nm_results.specs.declared.values.OpResult.{OpResult}
 use Rattle.nm_results.specs.declared.values.Results.{Results}

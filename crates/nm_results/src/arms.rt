@@ -2,10 +2,10 @@
 ghost use Rattle.std.specs.Prelude.{◌≡◌};
 ghost use Rattle.nm_results.specs.Arms.{is_op, ok_arm, failed_arm, denied_arm, in_use_arm, illegal_arm, arm_of};
 
-use nm_rules::OpStatus;
+use nm_types::OpStatus;
 
 /// The values of results, by their kinds.
-#[derive(Clone, Copy, Debug, PartialEq, Eq)]
+#[derive(Clone, Copy)]
 pub enum Arm {
     Nothing,
     Access,

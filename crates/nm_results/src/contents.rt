@@ -6,7 +6,7 @@ ghost use Rattle.nm_results.specs.Contents.{access_at, access, read_at, read_byt
 
 use crate::parts::take_bytes;
 use nm_attrs::ReadFault;
-use nm_rules::{AccessOk, ReadOk, WriteOk};
+use nm_types::{AccessOk, ReadOk, WriteOk};
 use nm_xdr::{Cursor, Memory, Writer, XdrFault};
 use std::alloc::Global;
 

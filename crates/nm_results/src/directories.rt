@@ -8,7 +8,7 @@ ghost use Rattle.nm_results.specs.Directories.{create_at, create, written_create
 use crate::parts::{put_change, put_fattr, take_bytes, take_change, take_fattr, take_words};
 use crate::{DirEntries, DirEntry, ReadDirOk};
 use nm_attrs::{ReadFault, put_bitmap};
-use nm_rules::CreateOk;
+use nm_types::CreateOk;
 use nm_xdr::{Cursor, Memory, Writer, XdrFault};
 use std::alloc::Global;
 

@@ -6,7 +6,7 @@ use nm_attrs::ReadFault;
 use nm_xdr::XdrFault;
 
 /// Why results aren't read.
-#[derive(Clone, Copy, Debug, PartialEq, Eq)]
+#[derive(Clone, Copy, Debug)]
 pub enum ResultsFault {
     /// The bytes aren't results.
     At {

@@ -8,7 +8,7 @@ ghost use Rattle.nm_results.specs.Locks.{kind_numbered, lock_kind_at, number_of_
 use crate::LockDenied;
 use crate::parts::take_bytes;
 use nm_attrs::ReadFault;
-use nm_rules::LockKind;
+use nm_types::LockKind;
 use nm_xdr::{Cursor, Memory, Writer, XdrFault};
 use std::alloc::Global;
 

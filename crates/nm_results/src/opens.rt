@@ -1,13 +1,13 @@
 //! The value of OPEN.
 ghost use Rattle.std.specs.Prelude.{◌≡◌, ◌++◌, ◌==◌, nat_le, OnOk};
 ghost use Rattle.nm_xdr.specs.Places.{Gives};
-ghost use Rattle.nm_rules.specs.declared.results.OpenDelegation.TheVariants as delegation;
+ghost use Rattle.nm_types.specs.declared.results.OpenDelegation.TheVariants as delegation;
 ghost use Rattle.nm_attrs.specs.Takes.{Takes};
 ghost use Rattle.nm_results.specs.Opens.{ace_behind, delegation_bytes, only_at, reads_at, writes_at, kind_at, delegation_as, delegation_at, written_delegation, ace, no_ace, open_at, open_bytes, written_open, IsOpen};
 
 use crate::parts::{put_change, put_stateid, take_change, take_slice, take_stateid, take_words};
 use nm_attrs::{ReadFault, put_bitmap};
-use nm_rules::{OpenDelegation, OpenOk, StateId};
+use nm_types::{OpenDelegation, OpenOk, StateId};
 use nm_xdr::{Cursor, Memory, Writer, XdrFault};
 use std::alloc::Global;
 

@@ -6,7 +6,7 @@ ghost use Rattle.nm_attrs.specs.Takes.{Takes};
 ghost use Rattle.nm_results.specs.Parts.{bytes_at, other_at, stateid_at, stateid, change_at, change, written_change, fattr_at, fattr, IsFattr};
 
 use nm_attrs::{ReadFault, put_bitmap, take_bitmap};
-use nm_rules::{Bytes, ChangeInfo, Fattr, StateId, Words};
+use nm_types::{Bytes, ChangeInfo, Fattr, StateId, Words};
 use nm_xdr::{Cursor, Memory, Writer, XdrFault};
 use std::alloc::Global;
 

@@ -10,7 +10,7 @@ use crate::parts::take_bytes;
 use crate::value_reading::take_value;
 use crate::{OpResult, ResultList, Results, ResultsFault};
 use nm_attrs::ReadFault;
-use nm_rules::OpStatus;
+use nm_types::OpStatus;
 use nm_xdr::{Cursor, XdrFault};
 use std::alloc::Global;
 

@@ -1,11 +1,11 @@
 //! What the results of operations tell.
-use nm_rules::{
+use nm_types::{
     AccessOk, Bytes, ChangeInfo, CreateOk, Fattr, Items, LockKind, OpStatus, OpenOk, ReadOk,
     StateId, Words, WriteOk,
 };
 
 /// The lock that is in the way of another (RFC 7531, LOCK4denied).
-#[derive(Debug, PartialEq, Eq, Drop)]
+#[derive(Debug, Drop)]
 pub struct LockDenied {
     pub offset: u64,
     /// Its length. All ones reach to the end of the file.
@@ -18,7 +18,7 @@ pub struct LockDenied {
 }
 
 /// An entry of a directory (RFC 7531, entry4).
-#[derive(Debug, PartialEq, Eq, Drop)]
+#[derive(Debug, Drop)]
 pub struct DirEntry {
     /// Where a further READDIR goes on behind it.
     pub cookie: u64,
@@ -31,7 +31,7 @@ pub struct DirEntry {
 pub type DirEntries = Items<DirEntry>;
 
 /// What an OK of READDIR tells (RFC 7531, READDIR4resok).
-#[derive(Debug, PartialEq, Eq, Drop)]
+#[derive(Debug, Drop)]
 pub struct ReadDirOk {
     /// The verifier of the cookies.
     pub cookieverf: u64,
@@ -41,7 +41,7 @@ pub struct ReadDirOk {
 }
 
 /// What an OK of SETCLIENTID tells (RFC 7531, SETCLIENTID4resok).
-#[derive(Clone, Copy, Debug, PartialEq, Eq)]
+#[derive(Clone, Copy, Debug)]
 pub struct SetClientIdOk {
     pub clientid: u64,
     /// The verifier by which it is confirmed.
@@ -49,14 +49,14 @@ pub struct SetClientIdOk {
 }
 
 /// Where a client is called back (RFC 7531, clientaddr4), each of at most 1,024 bytes.
-#[derive(Debug, PartialEq, Eq, Drop)]
+#[derive(Debug, Drop)]
 pub struct ClientAddress {
     pub netid: Bytes,
     pub addr: Bytes,
 }
 
 /// The value of a result: that of the operation with its status (RFC 7530, 16; RFC 7531, nfs_resop4).
-#[derive(Debug, PartialEq, Eq, Drop)]
+#[derive(Debug, Drop)]
 pub enum ResultValue {
     /// The operation has no value with this status.
     Nothing,
@@ -88,7 +88,7 @@ pub enum ResultValue {
 }
 
 /// The result of one operation.
-#[derive(Debug, PartialEq, Eq, Drop)]
+#[derive(Debug, Drop)]
 pub struct OpResult {
     /// The operation's number: one of 3 to 39, or 10044 for one that isn't known.
     pub op: u32,
@@ -100,7 +100,7 @@ pub struct OpResult {
 pub type ResultList = Items<OpResult>;
 
 /// The results of a compound (RFC 7531, COMPOUND4res).
-#[derive(Debug, PartialEq, Eq, Drop)]
+#[derive(Debug, Drop)]
 pub struct Results {
     /// The status of the whole.
     pub status: OpStatus,

@@ -5,7 +5,7 @@ ghost use Rattle.nm_results.specs.Results.{result_bytes, results_bytes, IsOpResu
 
 use crate::value_writing::put_result_value;
 use crate::{OpResult, Results};
-use nm_rules::Memory;
+use nm_types::Memory;
 use nm_xdr::Writer;
 use std::alloc::Global;
 

@@ -2,8 +2,8 @@
 use Rattle.std.proofs.Common.{◌≡◌, ◌<◌, ℕ, Bool, true, false, cond, Option, Some, None, refl, arith}
 use Rattle.std.specs.Prelude.{◌||◌, ◌&&◌, nat_le, is_none, length}
 use Rattle.std.proofs.lemmas.Bool.Decides.{nat_tests}
-use Rattle.nm_rules.specs.Parties.{Party}
-use Rattle.nm_rules.specs.declared.instance.Principal.{Principal}
+use Rattle.nm_types.specs.Parties.{Party}
+use Rattle.nm_types.specs.declared.instance.Principal.{Principal}
 use Rattle.nm_roll.specs.Records.{RollNow, unless_lapsed}
 use Rattle.nm_roll.specs.Clients.{set_case, given_case, has_no_room, is_of_other, known_clientid, confirmed_in, same_start}
 use Rattle.nm_roll.specs.Moves.{record_case, case_of, made_case, lacks_room, waiting_clientid}

@@ -1,9 +1,9 @@
 -- A reserved lease doesn't lapse.
-use Rattle.std.proofs.Common.{◌≡◌, ℕ, Bool, true, false, cond, List, Option, Some, None, refl, ap, ◌∙◌}
+use Rattle.std.proofs.Common.{◌≡◌, ℕ, Bool, true, false, cond, List, Some, None, refl, ap, ◌∙◌}
 use Rattle.std.specs.Prelude.{not, ◌&&◌, nat_lt}
 use Rattle.nm_roll.specs.Records.{RollNow, party_of, string_at}
 use Rattle.nm_roll.specs.Leases.{expire_answer, lapse_in, lapse_found, lapse_of, is_due, is_reserved, deadline}
-use Rattle.nm_roll.specs.declared.answers.Ended.{Ended}
+use Rattle.nm_types.specs.declared.leases.Ended.{Ended}
 use Rattle.nm_roll.specs.declared.records.Confirmed.{Confirmed}
 use Rattle.nm_roll.specs.declared.records.StringRow.{StringRow}
 

@@ -2,11 +2,11 @@
 use Rattle.std.proofs.Common.{◌≡◌, ◌<◌, ◌≤◌, ℕ, ◌+◌, List, ◌∷◌, Option, Some, None, ap, sym, ◌∙◌, length, drop, get_or}
 use Rattle.std.specs.Option.{option_or}
 use Rattle.std.proofs.lemmas.List.{at_drop_more, at_drop_all}
-use Rattle.nm_rules.specs.Parties.{Party}
+use Rattle.nm_types.specs.Parties.{Party}
 use Rattle.nm_roll.specs.Records.{RollNow, change_first}
 use Rattle.nm_roll.specs.Leases.{is_instance}
 use Rattle.nm_roll.specs.Moves.{Reserved, settled_row, gone_row, all_settled, all_gone, with_record, with_records, refusal_at, refusal_among}
-use Rattle.nm_roll.specs.declared.answers.LeasePass.{LeasePass}
+use Rattle.nm_types.specs.declared.leases.LeasePass.{LeasePass}
 use Rattle.nm_roll.specs.declared.records.StringRow.{StringRow}
 
 pub settled_on : (clock fs : ℕ) (passes : List LeasePass) (at : ℕ) (pass : LeasePass) (rows next all : List StringRow)

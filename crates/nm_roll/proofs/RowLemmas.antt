@@ -3,7 +3,7 @@ use Rattle.std.proofs.Common.{◌≡◌, ◌<◌, ℕ, ◌+◌, Bool, true, fals
 use Rattle.std.specs.Prelude.{not, nat_lt, find}
 use Rattle.std.specs.List.{position, position_or_len}
 use Rattle.std.proofs.lemmas.Bool.Decides.{nat_tests}
-use Rattle.nm_rules.specs.Parties.{Party}
+use Rattle.nm_types.specs.Parties.{Party}
 use Rattle.nm_roll.specs.Records.{change_first, change_string, has_string, new_string}
 use Rattle.nm_roll.specs.Clients.{waits_for_other}
 use Rattle.nm_roll.specs.Moves.{brought, brought_row}

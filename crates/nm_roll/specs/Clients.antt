@@ -1,13 +1,13 @@
 -- How a client makes itself known: SETCLIENTID and SETCLIENTID_CONFIRM (RFC 7530, 16.33 and 16.34).
 use Rattle.std.specs.Prelude.{ℕ, ◌+◌, ◌*◌, Bool, false, not, ◌==◌, ◌&&◌, ◌||◌, nat_le, List, [], Option, Some, None, find, is_none, option_and_then, option_map, if◌then◌else◌, length, replicate}
 use Rattle.std.specs.Option.{option_or}
-use Rattle.nm_rules.specs.declared.instance.Principal.{Principal}
+use Rattle.nm_types.specs.declared.instance.Principal.{Principal}
 use Rattle.nm_roll.specs.Records.{RollNow, string_at, change_string, change_first, same_principal, party_of, era_of, unless_lapsed, renewed_record}
 use Rattle.nm_roll.specs.declared.answers.CallbackPath.{CallbackPath}
 use Rattle.nm_roll.specs.declared.answers.ConfirmAnswer.{ConfirmAnswer}
 use Rattle.nm_roll.specs.declared.answers.ConfirmAnswer.TheVariants.{Done, Stale, InUse}
-use Rattle.nm_roll.specs.declared.answers.EndCause.TheVariants.{Restart}
-use Rattle.nm_roll.specs.declared.answers.Ended.{Ended}
+use Rattle.nm_types.specs.declared.leases.EndCause.TheVariants.{Restart}
+use Rattle.nm_types.specs.declared.leases.Ended.{Ended}
 use Rattle.nm_roll.specs.declared.answers.SetAnswer.{SetAnswer}
 use Rattle.nm_roll.specs.declared.answers.SetAnswer.TheVariants.{Given, Full, InUse as InUseAt}
 use Rattle.nm_roll.specs.declared.records.Confirmed.{Confirmed}

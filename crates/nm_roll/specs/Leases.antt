@@ -2,13 +2,13 @@
 -- has moved away.
 use Rattle.std.specs.Prelude.{ℕ, ◌+◌, ◌-◌, ◌*◌, ◌^◌, Bool, true, false, not, ◌==◌, ◌&&◌, nat_lt, min, List, Option, Some, None, find, option_map, option_and_then, is_some, if◌then◌else◌}
 use Rattle.std.specs.List.{list_any}
-use Rattle.nm_rules.specs.Parties.{Party, same_party}
+use Rattle.nm_types.specs.Parties.{Party, same_party}
 use Rattle.nm_roll.specs.Records.{RollNow, string_at, has_string, change_first, party_of, era_of, pass_of, unless_lapsed}
 use Rattle.nm_roll.specs.Clients.{same_start, has_clientid, confirmed_in}
 use Rattle.nm_roll.specs.declared.answers.CallbackPath.{CallbackPath}
-use Rattle.nm_roll.specs.declared.answers.EndCause.TheVariants.{Lapse}
-use Rattle.nm_roll.specs.declared.answers.Ended.{Ended}
-use Rattle.nm_roll.specs.declared.answers.LeasePass.{LeasePass}
+use Rattle.nm_types.specs.declared.leases.EndCause.TheVariants.{Lapse}
+use Rattle.nm_types.specs.declared.leases.Ended.{Ended}
+use Rattle.nm_types.specs.declared.leases.LeasePass.{LeasePass}
 use Rattle.nm_roll.specs.declared.answers.Touch.{Touch}
 use Rattle.nm_roll.specs.declared.answers.Touch.TheVariants.{Pass, Moved, Stale, Expired}
 use Rattle.nm_roll.specs.declared.records.Confirmed.{Confirmed}

@@ -2,12 +2,12 @@
 -- are reserved before a file system comes, and a client whose state has gone with one is told so.
 use Rattle.std.specs.Prelude.{ℕ, ◌+◌, Bool, true, false, not, ◌==◌, ◌&&◌, ◌||◌, nat_lt, nat_le, List, [], ◌∷◌, ◌++◌, length, map, filter, find, Option, Some, None, option_map, is_none, if◌then◌else◌, set}
 use Rattle.std.specs.Option.{option_or}
-use Rattle.nm_rules.specs.Parties.{Party}
-use Rattle.nm_rules.specs.declared.instance.Principal.{Principal}
+use Rattle.nm_types.specs.Parties.{Party}
+use Rattle.nm_types.specs.declared.instance.Principal.{Principal}
 use Rattle.nm_roll.specs.Records.{RollNow, string_at, change_string, change_first, party_of, era_of, unless_lapsed}
 use Rattle.nm_roll.specs.Clients.{last_counter, most_strings, next_clientid, confirmed_in, unconfirmed_in, same_start, unconfirmed_start, waits_for_other, none_moved}
 use Rattle.nm_roll.specs.Leases.{is_client, is_instance, is_over}
-use Rattle.nm_roll.specs.declared.answers.LeasePass.{LeasePass}
+use Rattle.nm_types.specs.declared.leases.LeasePass.{LeasePass}
 use Rattle.nm_roll.specs.declared.answers.Reserve.{Reserve}
 use Rattle.nm_roll.specs.declared.answers.Reserve.TheVariants as told
 use Rattle.nm_roll.specs.declared.cases.RecordCase.{RecordCase}

@@ -1,9 +1,9 @@
 -- What a roll knows: a list of client strings, each with its records (RFC 7530, 9.1.1).
 use Rattle.std.specs.Prelude.{ℕ, ◌%◌, Bool, ◌==◌, ◌&&◌, List, [], ◌∷◌, Option, Some, None, find, if◌then◌else◌}
 use Rattle.std.specs.Str.{bytes_eq}
-use Rattle.nm_rules.specs.Parties.{Party}
-use Rattle.nm_rules.specs.declared.instance.Principal.{Principal}
-use Rattle.nm_roll.specs.declared.answers.LeasePass.{LeasePass}
+use Rattle.nm_types.specs.Parties.{Party}
+use Rattle.nm_types.specs.declared.instance.Principal.{Principal}
+use Rattle.nm_types.specs.declared.leases.LeasePass.{LeasePass}
 use Rattle.nm_roll.specs.declared.records.Confirmed.{Confirmed}
 use Rattle.nm_roll.specs.declared.records.Reservation.{Reservation}
 use Rattle.nm_roll.specs.declared.records.StringRow.{StringRow}

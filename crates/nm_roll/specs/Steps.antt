@@ -1,14 +1,14 @@
 -- The steps of a roll, each with its answer, newest first; and what the roll is after them.
 use Rattle.std.specs.Prelude.{◌≡◌, ℕ, max, List, [], ◌∷◌, Option}
-use Rattle.nm_rules.specs.Parties.{Party}
-use Rattle.nm_rules.specs.declared.instance.Principal.{Principal}
+use Rattle.nm_types.specs.Parties.{Party}
+use Rattle.nm_types.specs.declared.instance.Principal.{Principal}
 use Rattle.nm_roll.specs.Records.{RollNow}
 use Rattle.nm_roll.specs.Clients.{set_answer, set_after, confirm_answer, confirm_after}
 use Rattle.nm_roll.specs.Leases.{is_client, is_instance, touch_answer, touch_after, expire_answer, expire_after}
 use Rattle.nm_roll.specs.Moves.{Reserved, reserve_answer, reserve_after, settle_after, release_after, moved_after, probed_after}
 use Rattle.nm_roll.specs.declared.answers.CallbackPath.{CallbackPath}
 use Rattle.nm_roll.specs.declared.answers.ConfirmAnswer.{ConfirmAnswer}
-use Rattle.nm_roll.specs.declared.answers.Ended.{Ended}
+use Rattle.nm_types.specs.declared.leases.Ended.{Ended}
 use Rattle.nm_roll.specs.declared.answers.SetAnswer.{SetAnswer}
 use Rattle.nm_roll.specs.declared.answers.Touch.{Touch}
 

@@ -1,45 +1,10 @@
 //! What the calls on a roll take and answer.
 ghost use Rattle.std.specs.Prelude.{◌≡◌, IfOk};
 
-use nm_rules::{Bytes, Era, Instance, Memory, MoveNum};
-
-/// When its server's roll was asked, the lease of this client stood, in this era of its record there.
-#[derive(Clone, Copy, Debug, PartialEq, Eq)]
-pub struct LeasePass {
-    pub instance: Instance,
-    /// A later record of the client at that server has a greater era.
-    pub era: Era,
-}
-
-/// Why a client's state at a server ended.
-#[derive(Clone, Copy, Debug, PartialEq, Eq)]
-pub enum EndCause {
-    /// Its lease was not renewed in time (RFC 7530, 9.6.3). Both are moments of the server's clock.
-    Lapse {
-        /// The last moment at which the lease stood.
-        deadline: u64,
-        /// When that was seen.
-        now: u64,
-    },
-    /// The client has started again (RFC 7530, 9.1.1). Both are verifiers.
-    Restart {
-        /// That of the start which has ended.
-        from: u64,
-        /// That of the new one.
-        to: u64,
-    },
-}
-
-/// The state of this client, in this era of its record at a server, has ended there.
-#[derive(Clone, Copy, Debug, PartialEq, Eq)]
-pub struct Ended {
-    pub instance: Instance,
-    pub era: Era,
-    pub why: EndCause,
-}
+use nm_types::{Bytes, Ended, Instance, LeasePass, Memory, MoveNum};
 
 /// Where a server calls a client back (RFC 7530, 16.33: cb_client4 and callback_ident).
-#[derive(Debug, PartialEq, Eq, Drop)]
+#[derive(Drop)]
 pub struct CallbackPath {
     /// The RPC program of the client's callbacks.
     pub program: u32,
@@ -66,7 +31,7 @@ impl CallbackPath {
 }
 
 /// What a client is answered that gives its string (SETCLIENTID, RFC 7530, 16.33).
-#[derive(Debug, PartialEq, Eq, Drop)]
+#[derive(Drop)]
 pub enum SetAnswer {
     /// The client is to confirm this pair.
     Given {
@@ -86,7 +51,7 @@ pub enum SetAnswer {
 }
 
 /// What a client is answered that confirms a pair (SETCLIENTID_CONFIRM, RFC 7530, 16.34).
-#[derive(Clone, Copy, Debug, PartialEq, Eq)]
+#[derive(Clone, Copy)]
 pub enum ConfirmAnswer {
     /// It is confirmed. Where a start of the client ended by that, it is told.
     Done { ended: Option<Ended> },
@@ -97,7 +62,7 @@ pub enum ConfirmAnswer {
 }
 
 /// What the roll says of a client that has come.
-#[derive(Clone, Copy, Debug, PartialEq, Eq)]
+#[derive(Clone, Copy)]
 pub enum Touch {
     /// Its lease stands, and is renewed.
     Pass(LeasePass),
@@ -110,7 +75,7 @@ pub enum Touch {
 }
 
 /// What comes of reserving the leases of those who have state in a file system that is to come.
-#[derive(Debug, Drop)]
+#[derive(Drop)]
 pub enum Reserve {
     /// Each of them has a record here, with a lease that doesn't lapse until the move is settled or given up. The passes are in
     /// the order of the instances.

@@ -1,8 +1,8 @@
 //! The cases of the tables by which clients make themselves known and are reserved.
-use nm_rules::{Instance, MoveNum};
+use nm_types::{Instance, MoveNum};
 
 /// What SETCLIENTID is (RFC 7530, 16.33.5).
-#[derive(Clone, Copy, Debug)]
+#[derive(Clone, Copy)]
 pub enum SetCase {
     /// The string is another principal's.
     OfOther,
@@ -15,7 +15,7 @@ pub enum SetCase {
 }
 
 /// What SETCLIENTID_CONFIRM is (RFC 7530, 16.34.5).
-#[derive(Clone, Copy, Debug)]
+#[derive(Clone, Copy)]
 pub enum ConfirmCase {
     /// The pair was given to another principal.
     Refused,
@@ -30,7 +30,7 @@ pub enum ConfirmCase {
 }
 
 /// What becomes of the record of an instance that is to be reserved.
-#[derive(Clone, Copy, Debug)]
+#[derive(Clone, Copy)]
 pub enum RecordCase {
     /// It has one whose lease stands.
     Stands,
@@ -45,7 +45,7 @@ pub enum RecordCase {
 }
 
 /// What an earlier reservation of a file system makes of a new one.
-#[derive(Clone, Copy, Debug)]
+#[derive(Clone, Copy)]
 pub enum ReserveCase {
     /// The earlier one has this number, a greater one.
     Outdated(MoveNum),

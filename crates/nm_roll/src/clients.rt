@@ -6,10 +6,8 @@ ghost use Rattle.nm_roll.specs.Records.{same_principal, unless_lapsed, renewed_r
 ghost use Rattle.nm_roll.specs.Clients.{is_of_other, same_start, confirmed_start, unconfirmed_start, is_waiting_pair, is_last_pair, is_number, has_pair, waits_for_other, is_pair_of_other, has_clientid, confirm_case, ended_by, answer_of_confirm, row_of_confirm, confirmed_row, confirm_found, taken_over, begun, in_use, path_in, known_clientid, confirmed_in, unconfirmed_in};
 
 use crate::cases::ConfirmCase;
-use crate::{
-    CallbackPath, ConfirmAnswer, Confirmed, EndCause, Ended, SetAnswer, StringRow, Unconfirmed,
-};
-use nm_rules::{Bytes, Era, Memory, Principal};
+use crate::{CallbackPath, ConfirmAnswer, Confirmed, SetAnswer, StringRow, Unconfirmed};
+use nm_types::{Bytes, EndCause, Ended, Era, Memory, Principal};
 use std::alloc::Global;
 
 /// Counters have 48 bits.

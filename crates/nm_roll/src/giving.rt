@@ -9,7 +9,7 @@ use crate::cases::SetCase;
 use crate::clients::{COUNTERS, same_start};
 use crate::rows::{find_string, put_waiting};
 use crate::{CallbackPath, Confirmed, Roll, SetAnswer, StringRow, Unconfirmed};
-use nm_rules::{Bytes, Memory, Principal};
+use nm_types::{Bytes, Memory, Principal};
 use std::alloc::Global;
 
 /// So many client strings may be known.

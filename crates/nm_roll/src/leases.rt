@@ -6,8 +6,8 @@ ghost use Rattle.nm_roll.specs.Clients.{has_clientid};
 ghost use Rattle.nm_roll.specs.Leases.{is_client, is_start, is_instance, is_over, has_moved, touch_of, touch_found, touched, touched_record, deadline, is_named, is_reserved, waits_alike, lapsed_record, lapsed_row};
 
 use crate::clients::{COUNTERS, same_start};
-use crate::{Confirmed, LeasePass, Reservation, StringRow, Touch};
-use nm_rules::{Era, Instance};
+use crate::{Confirmed, Reservation, StringRow, Touch};
+use nm_types::{Era, Instance, LeasePass};
 
 /// Whether an instance is among those of these passes.
 pub fn is_named(instance: &Instance, passes: &[LeasePass]) -> bool

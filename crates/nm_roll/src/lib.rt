@@ -19,9 +19,7 @@ mod roll;
 mod rows;
 mod told;
 
-pub use answers::{
-    CallbackPath, ConfirmAnswer, EndCause, Ended, LeasePass, Reserve, SetAnswer, Touch,
-};
+pub use answers::{CallbackPath, ConfirmAnswer, Reserve, SetAnswer, Touch};
 pub use laws::reserved_leases_stand;
 pub use records::{ClientString, Confirmed, Reservation, StringRow, Unconfirmed};
 pub use roll::Roll;

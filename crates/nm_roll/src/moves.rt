@@ -3,7 +3,7 @@ ghost use Rattle.std.specs.Prelude.{◌≡◌, option_map};
 ghost use Rattle.nm_roll.specs.Moves.{only_of, brought, brought_row, settled_record, settled_row, gone_record, gone_row, came, probed_row};
 
 use crate::{Confirmed, StringRow};
-use nm_rules::{FsNum, Instance, Principal};
+use nm_types::{FsNum, Instance, Principal};
 
 /// The record of an instance that comes with a file system.
 pub fn brought(clock: u64, clientid: u64, instance: &Instance) -> Confirmed

@@ -1,13 +1,13 @@
 //! The records of one client string.
 ghost use Rattle.std.specs.Prelude.{◌≡◌, ◌≤◌, length, IfOk};
 
-use crate::{CallbackPath, LeasePass};
-use nm_rules::{Bytes, FsNum, Instance, Items, Memory, MoveNum, Principal};
+use crate::CallbackPath;
+use nm_types::{Bytes, FsNum, Instance, Items, LeasePass, Memory, MoveNum, Principal};
 use std::alloc::Global;
 use std::marker::Model;
 
 /// The string by which a client names itself, of at most 1,024 bytes (RFC 7530, 9.1.1).
-#[derive(Debug, Drop)]
+#[derive(Drop)]
 pub struct ClientString {
     bytes: Bytes,
 }
@@ -72,7 +72,7 @@ impl ClientString {
 }
 
 /// A record that waits for the client to confirm it.
-#[derive(Debug, Drop)]
+#[derive(Drop)]
 pub struct Unconfirmed {
     /// The verifier of the client's start.
     pub verifier: u64,
@@ -85,7 +85,7 @@ pub struct Unconfirmed {
 }
 
 /// A record that was confirmed, or came with a file system from another server.
-#[derive(Debug, Drop)]
+#[derive(Drop)]
 pub struct Confirmed {
     /// The verifier of the client's start.
     pub verifier: u64,
@@ -106,7 +106,7 @@ pub struct Confirmed {
 }
 
 /// What is known of a client string.
-#[derive(Debug, Drop)]
+#[derive(Drop)]
 pub struct StringRow {
     pub id: ClientString,
     pub confirmed: Option<Confirmed>,
@@ -114,7 +114,7 @@ pub struct StringRow {
 }
 
 /// Leases that wait for a file system which is on its way here.
-#[derive(Debug, Drop)]
+#[derive(Drop)]
 pub struct Reservation {
     pub fs: FsNum,
     /// The number of its move.

@@ -13,8 +13,8 @@ use crate::giving::{LAST, MOST_STRINGS};
 use crate::records::start_of;
 use crate::rows::{find_string, put_brought};
 use crate::told::{confirmed_in, drop_for, find_reservation};
-use crate::{Confirmed, LeasePass, Reservation, Reserve, Roll, StringRow};
-use nm_rules::{Era, FsNum, Instance, Items, Memory, MoveNum};
+use crate::{Confirmed, Reservation, Reserve, Roll, StringRow};
+use nm_types::{Era, FsNum, Instance, Items, LeasePass, Memory, MoveNum};
 use std::alloc::Global;
 
 // The clientid of a record of this instance that waits.

@@ -11,15 +11,12 @@ use crate::rows::{
     touch_instance,
 };
 use crate::told::{clientid_of, copy_path_in, drop_numbered, find_numbered};
-use crate::{
-    CallbackPath, ConfirmAnswer, Ended, Reservation, Reserve, SetAnswer, StringRow, Touch,
-};
-use nm_rules::{FsNum, Instance, Memory, MoveNum, Principal, ServerNum};
+use crate::{CallbackPath, ConfirmAnswer, Reservation, Reserve, SetAnswer, StringRow, Touch};
+use nm_types::{Ended, FsNum, Instance, Memory, MoveNum, Principal, ServerNum};
 use std::alloc::Global;
 use std::marker::Model;
 
 /// What a server knows of its clients, its clock, and the leases that wait for file systems on their way here.
-#[derive(Debug, Drop)]
 pub struct Roll {
     pub(crate) server: ServerNum,
     pub(crate) tag: u16,
@@ -29,6 +26,21 @@ pub struct Roll {
     pub(crate) confirms: u64,
     pub(crate) rows: Vec<StringRow>,
     pub(crate) reservations: Vec<Reservation>,
+}
+
+impl Drop for Roll {
+    fn drop(self) {
+        let Roll {
+            server: _,
+            tag: _,
+            lease: _,
+            clock: _,
+            clientids: _,
+            confirms: _,
+            rows: _,
+            reservations: _,
+        } = self;
+    }
 }
 
 impl Model for Roll {

@@ -6,8 +6,8 @@ ghost use Rattle.nm_roll.specs.Leases.{is_client, is_instance, touch_found, touc
 ghost use Rattle.nm_roll.specs.Moves.{brought_row, settled_row, gone_row, probed_row, all_settled, all_gone};
 
 use crate::moves::brought;
-use crate::{ClientString, ConfirmAnswer, LeasePass, StringRow, Touch, Unconfirmed};
-use nm_rules::{FsNum, Instance, Memory, Principal};
+use crate::{ClientString, ConfirmAnswer, StringRow, Touch, Unconfirmed};
+use nm_types::{FsNum, Instance, LeasePass, Memory, Principal};
 
 /// What is known of a string.
 #[tactic(auto, unfolding(crate::specs::Records::string_at))]

@@ -2,15 +2,15 @@
 ghost use Rattle.std.specs.Prelude.{◌≡◌, ◌==◌, ◌&&◌, find, option_copied, option_map, IfOk};
 ghost use Rattle.nm_roll.specs.Records.{string_at, unless_lapsed, party_of, era_of};
 ghost use Rattle.nm_roll.specs.Clients.{confirmed_in, path_in};
-ghost use Rattle.nm_roll.specs.declared.answers.EndCause.TheVariants.{Lapse};
+ghost use Rattle.nm_types.specs.declared.leases.EndCause.TheVariants.{Lapse};
 ghost use Rattle.nm_roll.specs.Leases.{is_reserved, is_due, lapse_of, lapse_found, expire_answer, deadline};
 ghost use Rattle.nm_roll.specs.Moves.{is_numbered, is_for, without, without_of, reservation_of};
 
 use crate::giving::path_in;
 use crate::leases::is_reserved;
 use crate::rows::find_string;
-use crate::{CallbackPath, Confirmed, EndCause, Ended, Reservation, Roll, StringRow};
-use nm_rules::{FsNum, Memory, MoveNum};
+use crate::{CallbackPath, Confirmed, Reservation, Roll, StringRow};
+use nm_types::{EndCause, Ended, FsNum, Memory, MoveNum};
 
 /// The confirmed record, lapsed or not.
 pub fn confirmed_in(row: Option<&StringRow>) -> Option<&Confirmed>

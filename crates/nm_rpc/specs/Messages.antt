@@ -2,7 +2,7 @@
 use Rattle.std.specs.Prelude.{◌≡◌, ℕ, ◌+◌, ◌-◌, ◌≤◌, ◌<◌, ◌^◌, Bool, false, ◌==◌, ◌&&◌, not, nat_le, nat_lt, List, [], ◌∷◌, ◌++◌, length, drop, find, All, Option, Some, None, Result, Ok, Err, ◌⊎◌, if◌then◌else◌}
 use Rattle.nm_xdr.specs.Fields.{short, Fault, Reading, fault_at, field, made, all_of}
 use Rattle.nm_xdr.specs.Items.{word, opaque, counted, structure, word_at, opaque_at, counted_at}
-use Rattle.nm_rules.specs.declared.instance.Principal.{Principal}
+use Rattle.nm_types.specs.declared.instance.Principal.{Principal}
 use Rattle.nm_rpc.specs.declared.calls.Service.{Service}
 use Rattle.nm_rpc.specs.declared.calls.CallHead.{CallHead}
 use Rattle.nm_rpc.specs.declared.calls.CallFault.{CallFault}

@@ -6,7 +6,7 @@ ghost use Rattle.nm_rpc.specs.Messages.{call_id, rpc_checked, caller_checked, se
 use crate::credentials::{Caller, caller_in_credential};
 use crate::headers::{auth_at_place, place_of_fault, take_header, word_at_place};
 use crate::{CallFault, CallHead, Service};
-use nm_rules::{Bytes, Memory};
+use nm_types::{Bytes, Memory};
 use nm_xdr::Cursor;
 use std::alloc::Global;
 

@@ -4,7 +4,7 @@ ghost use Rattle.nm_rpc.specs.Messages.{sys_credential, credential as credential
 
 use crate::CallHead;
 use crate::headers::{Header, put_header};
-use nm_rules::Memory;
+use nm_types::Memory;
 use nm_xdr::Writer;
 use std::alloc::Global;
 

@@ -1,10 +1,10 @@
 //! What calls are, and what they are refused with.
 ghost use Rattle.std.specs.Prelude.{◌≡◌};
 
-use nm_rules::{Bytes, Memory, Principal};
+use nm_types::{Bytes, Memory, Principal};
 
 /// A program that is served, in one version, with the procedures from 0 to the greatest.
-#[derive(Clone, Copy, Debug, PartialEq, Eq)]
+#[derive(Clone, Copy, Debug)]
 pub struct Service {
     pub program: u32,
     pub version: u32,
@@ -13,7 +13,7 @@ pub struct Service {
 }
 
 /// What stands before a call's body (RFC 5531, 9).
-#[derive(Debug, PartialEq, Eq, Drop)]
+#[derive(Debug, Drop)]
 pub struct CallHead {
     /// The number that the reply will have.
     pub xid: u32,
@@ -29,7 +29,7 @@ pub struct CallHead {
 }
 
 /// Why bytes aren't a call that is served: the first that holds, of those for which the items that can be read stand.
-#[derive(Clone, Copy, Debug, PartialEq, Eq)]
+#[derive(Clone, Copy, Debug)]
 pub enum CallFault {
     /// The xid or the kind of message can't be read, or it isn't a call. Nothing is answered.
     NotCall,

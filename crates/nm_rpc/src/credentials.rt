@@ -6,11 +6,11 @@ ghost use Rattle.nm_xdr.specs.Items.{word_at};
 ghost use Rattle.nm_xdr.specs.Places.{Gives};
 ghost use Rattle.nm_rpc.specs.Messages.{pass, gids_at, sys_caller_at, sys_caller_of, sys_credential_at, caller_in};
 
-use nm_rules::Principal;
+use nm_types::Principal;
 use nm_xdr::{Cursor, XdrFault};
 
 /// Who calls, and from which machine.
-#[derive(Clone, Copy, Debug)]
+#[derive(Clone, Copy)]
 pub(crate) struct Caller<'a> {
     pub(crate) principal: Principal,
     pub(crate) machine: &'a [u8],

@@ -1,9 +1,9 @@
 //! Why a piece of a stream isn't taken.
 
-use nm_rules::Memory;
+use nm_types::Memory;
 
 /// Why a piece of a stream of records isn't taken.
-#[derive(Clone, Copy, Debug, PartialEq, Eq)]
+#[derive(Clone, Copy, Debug)]
 pub enum RecordFault {
     /// A record is longer than the limit.
     TooLong {

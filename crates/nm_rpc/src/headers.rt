@@ -7,7 +7,7 @@ ghost use Rattle.nm_rpc.specs.Messages.{header, header_at, auth_at, word_from, a
 use nm_xdr::{Cursor, Memory, Writer, XdrFault};
 
 /// All items before a call's body.
-#[derive(Clone, Copy, Debug)]
+#[derive(Clone, Copy)]
 pub(crate) struct Header<'a> {
     pub(crate) xid: u32,
     /// 0 for a call.

@@ -2,12 +2,12 @@
 
 ghost use Rattle.std.specs.Prelude.{◌≡◌, [], ◌++◌, length, take, OnOk, OnErr};
 
-use nm_rules::Memory;
+use nm_types::Memory;
 use std::alloc::Global;
 use std::marker::Model;
 
 /// The bytes of a record, as far as they have come.
-#[derive(Debug, Drop)]
+#[derive(Drop)]
 pub struct Joined {
     bytes: Vec<u8>,
 }

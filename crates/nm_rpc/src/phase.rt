@@ -13,7 +13,7 @@
 ///             ▼
 ///          TooLong      a header that announces more than the limit leaves room for
 /// ```
-#[derive(Clone, Copy, Debug, PartialEq, Eq)]
+#[derive(Clone, Copy)]
 pub enum Phase {
     /// A fragment's header, of which some bytes have come.
     Header {

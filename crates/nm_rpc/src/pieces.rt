@@ -7,7 +7,7 @@ ghost use Rattle.nm_rpc.specs.Feeding.{fresh, fed, refusal_of, IsRefusal};
 
 use crate::fault::RecordFault;
 use crate::records::Records;
-use nm_rules::Memory;
+use nm_types::Memory;
 use std::alloc::Global;
 
 /// The records of a stream that came in these pieces. A record of it may have `limit` bytes.

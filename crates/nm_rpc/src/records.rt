@@ -12,7 +12,7 @@ ghost use Rattle.nm_rpc.specs.declared.phase.Phase.TheVariants.{Header};
 use crate::fault::RecordFault;
 use crate::joined::Joined;
 use crate::phase::Phase;
-use nm_rules::Memory;
+use nm_types::Memory;
 use std::alloc::Global;
 use std::collections::VecDeque;
 use std::marker::Model;
@@ -27,7 +27,7 @@ const HEADER: usize = 4;
 ///
 /// Contracts see the limit, the records that wait to be given, what has come of the next one, and what the
 /// next byte belongs to.
-#[derive(Debug, Drop)]
+#[derive(Drop)]
 pub struct Records {
     limit: u32,
     waiting: VecDeque<Joined>,

@@ -5,12 +5,12 @@ ghost use Rattle.nm_xdr.specs.Places.{Gives, end_of};
 ghost use Rattle.nm_rpc.specs.Replies.{done, undone, other_versions, other_rpc, unknown_caller, accepted, denied, reply, only_at, choice_at, accepted_as, accepted_at, denied_as, denied_at, reply_at, AnswersReply, refusal, spelled};
 
 use crate::CallFault;
-use nm_rules::Memory;
+use nm_types::Memory;
 use nm_xdr::{Cursor, Writer, XdrFault};
 use std::alloc::Global;
 
 /// What a reply tells.
-#[derive(Clone, Copy, Debug, PartialEq, Eq)]
+#[derive(Clone, Copy, Debug)]
 pub struct ReplyHead {
     /// The number of the call that is answered.
     pub xid: u32,
@@ -18,7 +18,7 @@ pub struct ReplyHead {
 }
 
 /// What became of a call.
-#[derive(Clone, Copy, Debug, PartialEq, Eq)]
+#[derive(Clone, Copy, Debug)]
 pub enum ReplyOutcome {
     /// It was done.
     Success {

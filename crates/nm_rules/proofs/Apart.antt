@@ -7,11 +7,11 @@ use Rattle.std.proofs.lemmas.Nat.{and_or_apart, and_comm}
 use Rattle.std.specs.Prelude.{◌==◌, ◌&&◌, ◌||◌, not, find, filter, nat_lt, bit_and, bit_or}
 use Rattle.std.specs.List.{list_all, list_any}
 use Rattle.std.proofs.lemmas.Bool.Decides.{nat_tests}
-use Rattle.nm_rules.specs.Owners.{same_owner}
+use Rattle.nm_types.specs.Owners.{same_owner}
 use Rattle.nm_rules.specs.Shares.{meets, shares_conflict, opposes, is_opposed, is_open_of, open_of, opened_row, renewed_row, narrowed_row, put_open}
 use Rattle.nm_rules.specs.Sound.{rises, are_apart, all_apart}
-use Rattle.nm_rules.specs.declared.calls.Owner.{Owner}
-use Rattle.nm_rules.specs.declared.rows.OpenRow.{OpenRow}
+use Rattle.nm_types.specs.declared.calls.Owner.{Owner}
+use Rattle.nm_types.specs.declared.rows.OpenRow.{OpenRow}
 use Rattle.nm_rules.proofs.OwnerLemmas.{same_owner-sym, same_owner-Decides}
 use Rattle.nm_rules.proofs.OpenRows.{IsIn, and_parts, in-open_at, in-filter}
 

@@ -3,8 +3,8 @@ use Rattle.std.proofs.Common.{◌≡◌, Bool, true, false, Option, Some, None, 
 use Rattle.std.specs.Option.{option_or}
 use Rattle.nm_rules.specs.Checks.{Checks, Stop, first, refusal, behind_seqid, refuse_if}
 use Rattle.nm_rules.specs.Checks.Stop.{Repeat}
-use Rattle.nm_rules.specs.declared.calls.Reply.{Reply}
-use Rattle.nm_rules.specs.declared.status.OpStatus.{OpStatus}
+use Rattle.nm_types.specs.declared.calls.Reply.{Reply}
+use Rattle.nm_types.specs.declared.status.OpStatus.{OpStatus}
 
 pub or_none : {A : Type 0} (a b : Option A) → option_or a b ≡ None → (a ≡ None) × (b ≡ None)
 or_none None b none = (refl, none)

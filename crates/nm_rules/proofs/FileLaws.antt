@@ -5,7 +5,7 @@ use Rattle.std.proofs.lemmas.Bool.{false≢true}
 use Rattle.std.proofs.lemmas.Bool.Decides.{nat_tests}
 use Rattle.std.proofs.lemmas.List.{get_or-take, get_or-drop, get_or-replicate, get_or_past, length-take, length-replicate, get_or-append_right, get_or_append_left}
 use Rattle.nm_rules.specs.Lists.{is_empty}
-use Rattle.nm_rules.specs.Parties.{Party}
+use Rattle.nm_types.specs.Parties.{Party}
 use Rattle.nm_rules.specs.Attributes.{Asks, asks_of, asked_size, asked_mode}
 use Rattle.nm_rules.specs.Checks.{Stop, first}
 use Rattle.nm_rules.specs.Checks.Stop.{Refuse, Repeat}
@@ -17,26 +17,27 @@ use Rattle.nm_rules.specs.Files.{create_value}
 use Rattle.nm_rules.specs.LockOps.{lock_value, changed_lock}
 use Rattle.nm_rules.specs.Opens.{open_checks, open_value, target}
 use Rattle.nm_rules.specs.Seqids.{is_fresh}
-use Rattle.nm_rules.specs.Past.{Past, Now, acts, words, is_done, deed_words, judgement, close_words, confirm_words, downgrade_words, open_tree, claimed_in, claimed_name, opentype_asks, cuts, parent_of, set_tree, write_tree}
+use Rattle.nm_rules.specs.Past.{Past, Now, acts, words, deed_words, judgement, close_words, confirm_words, downgrade_words, open_tree, claimed_in, claimed_name, opentype_asks, cuts, parent_of, set_tree, write_tree}
+use Rattle.nm_types.specs.Statuses.{is_done}
 use Rattle.nm_rules.specs.Seen.{Seen, seen, look, after, after_words}
-use Rattle.nm_rules.specs.Answer.{answer_to, reply_by, reply_with, refused_value, ok_value, checks, IsLegal}
+use Rattle.nm_rules.specs.Answer.{answer_to, reply_by, refused_value, ok_value, checks, IsLegal}
 use Rattle.nm_rules.specs.FileReadings.{FileChange, open_change, deed_change, change_of, byte_after, size_after, mode_after, name_after, dir_after, byte_of, size_of, mode_of, name_of, dir_of, IsRead}
 use Rattle.nm_rules.specs.FileReadings.FileChange.{Leaves, Makes, Writes, Sets}
 use Rattle.nm_rules.specs.Sound.{IsSound}
-use Rattle.nm_rules.specs.declared.args.OpenArgs.{OpenArgs}
-use Rattle.nm_rules.specs.declared.args.OpenType.{OpenType}
-use Rattle.nm_rules.specs.declared.args.WriteArgs.{WriteArgs}
-use Rattle.nm_rules.specs.declared.calls.Call.{Call}
-use Rattle.nm_rules.specs.declared.calls.Deed.{Deed}
-use Rattle.nm_rules.specs.declared.calls.Deed.TheVariants as deed
-use Rattle.nm_rules.specs.declared.calls.Event.{Event}
-use Rattle.nm_rules.specs.declared.calls.Event.TheVariants.{Asked, Ended}
-use Rattle.nm_rules.specs.declared.calls.Reply.{Reply}
-use Rattle.nm_rules.specs.declared.calls.ReplyValue.TheVariants as told
-use Rattle.nm_rules.specs.declared.calls.StateId.{StateId}
-use Rattle.nm_rules.specs.declared.calls.Verdict.{Verdict}
-use Rattle.nm_rules.specs.declared.rows.FileRow.{FileRow}
-use Rattle.nm_rules.specs.declared.status.OpStatus.{OpStatus}
+use Rattle.nm_types.specs.declared.args.OpenArgs.{OpenArgs}
+use Rattle.nm_types.specs.declared.args.OpenType.{OpenType}
+use Rattle.nm_types.specs.declared.args.WriteArgs.{WriteArgs}
+use Rattle.nm_types.specs.declared.calls.Call.{Call}
+use Rattle.nm_types.specs.declared.calls.Deed.{Deed}
+use Rattle.nm_types.specs.declared.calls.Deed.TheVariants as deed
+use Rattle.nm_types.specs.declared.calls.Event.{Event}
+use Rattle.nm_types.specs.declared.calls.Event.TheVariants.{Asked, Ended}
+use Rattle.nm_types.specs.declared.calls.Reply.{Reply}
+use Rattle.nm_types.specs.declared.calls.ReplyValue.TheVariants as told
+use Rattle.nm_types.specs.declared.calls.StateId.{StateId}
+use Rattle.nm_types.specs.declared.calls.Verdict.{Verdict}
+use Rattle.nm_types.specs.declared.rows.FileRow.{FileRow}
+use Rattle.nm_types.specs.declared.status.OpStatus.{OpStatus}
 use Rattle.nm_rules.proofs.FileRows.{file_at-past}
 use Rattle.nm_rules.proofs.Legal.{free_is_fresh, repeat_is_old, words-refused, words-old, words-free, sound-seen, look-seen, claimed_is_target}
 use Rattle.nm_rules.proofs.Looks.{file_by-after}

@@ -9,7 +9,7 @@ use Rattle.nm_rules.specs.Contents.{file_at, child_at, is_named, stamped, edited
 use Rattle.nm_rules.specs.Contents.FileEdit.{Wrote, Set}
 use Rattle.nm_rules.specs.Sound.{files_rise}
 use Rattle.nm_rules.proofs.OpenRows.{and_parts}
-use Rattle.nm_rules.specs.declared.rows.FileRow.{FileRow}
+use Rattle.nm_types.specs.declared.rows.FileRow.{FileRow}
 
 -- a change of rows that keeps what they are found by
 pub record Keeps (change : FileRow → FileRow) : Type 0 where

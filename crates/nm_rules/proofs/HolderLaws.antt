@@ -12,26 +12,26 @@ use Rattle.std.specs.Ordering.{is_lt, nat_cmp, ordering_index, ordering_reverse,
 use Rattle.std.specs.declared.cmp.Ordering.{Ordering}
 use Rattle.std.specs.declared.cmp.Ordering.TheVariants.{Less, Equal, Greater}
 use Rattle.std.proofs.lemmas.Map.Lookups.{exact_bytes, exact_unsigned}
-use Rattle.nm_rules.specs.Parties.{Party, same_party, party_cmp}
+use Rattle.nm_types.specs.Parties.{Party, same_party, party_cmp}
 use Rattle.nm_rules.specs.Holders.{put_by, put_party, gathered, holders, has_row, opener_of, known_of, is_opener_of, is_owner_of, rises_after, parties_rise, is_among}
-use Rattle.nm_rules.specs.Owners.{same_owner}
+use Rattle.nm_types.specs.Owners.{same_owner}
 use Rattle.nm_rules.specs.Seqids.{OwnerWord, put_owner, owners_after}
 use Rattle.nm_rules.specs.Seqids.OwnerWord.{Stays, Noted, Gone, GoneOf}
 use Rattle.nm_rules.specs.Shares.{OpenWord, put_open, opens_after}
 use Rattle.nm_rules.specs.Shares.OpenWord.{Keep, Put, Drop, DropOf}
 use Rattle.nm_rules.specs.Past.{Now, words, no_words, acts, deed_words, lock_words, is_released, released_words, release_words, owner_word, started_by}
 use Rattle.nm_rules.specs.Seen.{Seen, look, after, after_words}
-use Rattle.nm_rules.specs.declared.args.LockArgs.{LockArgs}
-use Rattle.nm_rules.specs.declared.calls.Call.{Call}
-use Rattle.nm_rules.specs.declared.calls.Deed.{Deed}
-use Rattle.nm_rules.specs.declared.calls.Deed.TheVariants as deed
-use Rattle.nm_rules.specs.declared.calls.Event.{Event}
-use Rattle.nm_rules.specs.declared.calls.Event.TheVariants.{Asked, Ended}
-use Rattle.nm_rules.specs.declared.calls.Reply.{Reply}
-use Rattle.nm_rules.specs.declared.calls.ReplyValue.{ReplyValue}
-use Rattle.nm_rules.specs.declared.calls.ReplyValue.TheVariants as told
-use Rattle.nm_rules.specs.declared.owners.OwnerRow.{OwnerRow}
-use Rattle.nm_rules.specs.declared.rows.OpenRow.{OpenRow}
+use Rattle.nm_types.specs.declared.args.LockArgs.{LockArgs}
+use Rattle.nm_types.specs.declared.calls.Call.{Call}
+use Rattle.nm_types.specs.declared.calls.Deed.{Deed}
+use Rattle.nm_types.specs.declared.calls.Deed.TheVariants as deed
+use Rattle.nm_types.specs.declared.calls.Event.{Event}
+use Rattle.nm_types.specs.declared.calls.Event.TheVariants.{Asked, Ended}
+use Rattle.nm_types.specs.declared.calls.Reply.{Reply}
+use Rattle.nm_types.specs.declared.calls.ReplyValue.{ReplyValue}
+use Rattle.nm_types.specs.declared.calls.ReplyValue.TheVariants as told
+use Rattle.nm_types.specs.declared.owners.OwnerRow.{OwnerRow}
+use Rattle.nm_types.specs.declared.rows.OpenRow.{OpenRow}
 use Rattle.nm_rules.proofs.Refusals.{lock_keeps}
 
 pub party_cmp-total : IsTotalOrder party_cmp

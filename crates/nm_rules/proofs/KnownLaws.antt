@@ -1,19 +1,21 @@
 -- The owner of each open is known.
-use Rattle.std.proofs.Common.{◌≡◌, ℕ, ◌+◌, Bool, true, false, cond, List, [], ◌∷◌, ◌++◌, Option, Some, None, refl, ap, sym, subst, ◌∙◌}
+use Rattle.std.proofs.Common.{◌≡◌, ℕ, Bool, true, false, cond, List, [], ◌∷◌, ◌++◌, Option, Some, None, refl, ap, sym, subst, ◌∙◌}
 use Rattle.std.specs.Prelude.{not, is_none, find, filter, option_map, ◌==◌}
 use Rattle.std.specs.List.{list_all}
-use Rattle.std.proofs.lemmas.Bool.{false≢true, true≢false, both_ways}
-use Rattle.nm_rules.specs.Parties.{Party, same_party}
-use Rattle.nm_rules.specs.Owners.{same_kind, same_owner}
+use Rattle.std.proofs.lemmas.Bool.{false≢true, both_ways}
+use Rattle.nm_types.specs.Parties.{Party, same_party}
+use Rattle.nm_types.specs.Owners.{same_kind, same_owner}
 use Rattle.nm_rules.specs.LockAsks.{lock_owner}
 use Rattle.nm_rules.specs.LockOps.{lock_value, locked_stateid, changed_lock, next_lock_stateid}
 use Rattle.nm_rules.specs.LockRows.{LockWord, lock_at, renewed_lock, claim_if, clear_if, locks_after}
 use Rattle.nm_rules.specs.LockRows.LockWord.{AsIs, Claimed, Cleared, ClosedWith, Released, EndedOf}
-use Rattle.nm_rules.specs.Seqids.{OwnerWord, advances, is_fresh, seqid_of, owner_at, put_owner, owners_after, closed_after, listed}
+use Rattle.nm_rules.specs.Seqids.{OwnerWord, is_fresh, owner_at, put_owner, owners_after, closed_after, listed}
+use Rattle.nm_types.specs.Statuses.{advances}
+use Rattle.nm_types.specs.Calls.{seqid_of}
 use Rattle.nm_rules.specs.Seqids.OwnerWord.{Stays, Noted, Gone, GoneOf}
 use Rattle.nm_rules.specs.Shares.{OpenWord, open_at, opened_row, renewed_row, narrowed_row, put_if, put_open, opens_after}
 use Rattle.nm_rules.specs.Shares.OpenWord.{Keep, Put, Drop, DropOf}
-use Rattle.nm_rules.specs.Past.{Past, Now, Words, no_words, deed_words, noted, noted_row, closed_by, owner_word, judgement, seqid_owner, with_owners, words, started_by, lock_starts, ended, released_words, lock_words, unlock_words, is_done, opener, open_words, close_words, confirm_words, downgrade_words}
+use Rattle.nm_rules.specs.Past.{Past, Now, Words, no_words, deed_words, noted, noted_row, closed_by, owner_word, judgement, seqid_owner, with_owners, words, started_by, lock_starts, ended, released_words, lock_words, unlock_words, opener, open_words, close_words, confirm_words, downgrade_words}
 use Rattle.nm_rules.specs.Seen.{Seen, seen, look, after, after_words}
 use Rattle.nm_rules.specs.Checks.{Stop, first}
 use Rattle.nm_rules.specs.Checks.Stop.{Refuse, Repeat}
@@ -23,29 +25,28 @@ use Rattle.nm_rules.specs.Opens.{changed_stateid, next_stateid, open_value}
 use Rattle.nm_rules.specs.Stateids.{open_named, lock_named}
 use Rattle.nm_rules.specs.Answer.{answer_to, reply_by, refused_value, refusal_value, ok_value, checks, IsLegal}
 use Rattle.nm_rules.specs.Sound.{is_known, is_opener, is_locker, OwnersAreKnown}
-use Rattle.nm_rules.specs.declared.args.Locker.{Locker}
-use Rattle.nm_rules.specs.declared.args.Locker.TheVariants as locker
-use Rattle.nm_rules.specs.declared.args.OpenArgs.{OpenArgs}
-use Rattle.nm_rules.specs.declared.args.OpenDowngradeArgs.{OpenDowngradeArgs}
-use Rattle.nm_rules.specs.declared.calls.Call.{Call}
-use Rattle.nm_rules.specs.declared.calls.StateId.{StateId}
-use Rattle.nm_rules.specs.declared.calls.Deed.{Deed}
-use Rattle.nm_rules.specs.declared.calls.Deed.TheVariants as deed
-use Rattle.nm_rules.specs.declared.calls.Event.{Event}
-use Rattle.nm_rules.specs.declared.calls.Event.TheVariants.{Asked, Ended}
-use Rattle.nm_rules.specs.declared.calls.Owner.{Owner}
-use Rattle.nm_rules.specs.declared.calls.OwnerKind.TheVariants.{Opens}
-use Rattle.nm_rules.specs.declared.calls.Reply.{Reply}
-use Rattle.nm_rules.specs.declared.calls.ReplyValue.TheVariants as told
-use Rattle.nm_rules.specs.declared.calls.Verdict.{Verdict}
-use Rattle.nm_rules.specs.declared.calls.StateRef.{StateRef}
-use Rattle.nm_rules.specs.declared.owners.OwnerRow.{OwnerRow}
-use Rattle.nm_rules.specs.declared.results.LockKind.{LockKind}
-use Rattle.nm_rules.specs.declared.results.LockOutcome.TheVariants.{Locked}
-use Rattle.nm_rules.specs.declared.rows.LockRow.{LockRow}
-use Rattle.nm_rules.specs.declared.rows.OpenRow.{OpenRow}
-use Rattle.nm_rules.specs.declared.status.OpStatus.{OpStatus}
-use Rattle.nm_rules.specs.declared.status.OpStatus.TheVariants.{Nfs4Ok}
+use Rattle.nm_types.specs.declared.args.Locker.{Locker}
+use Rattle.nm_types.specs.declared.args.Locker.TheVariants as locker
+use Rattle.nm_types.specs.declared.args.OpenArgs.{OpenArgs}
+use Rattle.nm_types.specs.declared.args.OpenDowngradeArgs.{OpenDowngradeArgs}
+use Rattle.nm_types.specs.declared.calls.Call.{Call}
+use Rattle.nm_types.specs.declared.calls.StateId.{StateId}
+use Rattle.nm_types.specs.declared.calls.Deed.{Deed}
+use Rattle.nm_types.specs.declared.calls.Deed.TheVariants as deed
+use Rattle.nm_types.specs.declared.calls.Event.{Event}
+use Rattle.nm_types.specs.declared.calls.Event.TheVariants.{Asked, Ended}
+use Rattle.nm_types.specs.declared.calls.Owner.{Owner}
+use Rattle.nm_types.specs.declared.calls.OwnerKind.TheVariants.{Opens}
+use Rattle.nm_types.specs.declared.calls.Reply.{Reply}
+use Rattle.nm_types.specs.declared.calls.ReplyValue.TheVariants as told
+use Rattle.nm_types.specs.declared.calls.StateRef.{StateRef}
+use Rattle.nm_types.specs.declared.owners.OwnerRow.{OwnerRow}
+use Rattle.nm_types.specs.declared.results.LockKind.{LockKind}
+use Rattle.nm_types.specs.declared.results.LockOutcome.TheVariants.{Locked}
+use Rattle.nm_types.specs.declared.rows.LockRow.{LockRow}
+use Rattle.nm_types.specs.declared.rows.OpenRow.{OpenRow}
+use Rattle.nm_types.specs.declared.status.OpStatus.{OpStatus}
+use Rattle.nm_types.specs.declared.status.OpStatus.TheVariants.{Nfs4Ok}
 use Rattle.nm_rules.proofs.Legal.{words-free, words-old, words-refused, repeat_is_old}
 use Rattle.nm_rules.proofs.LockRowLaws.{list_all-filter, list_all-put}
 use Rattle.nm_rules.proofs.OpenRows.{and_parts}

@@ -1,59 +1,55 @@
 -- The tables of locks of every legal list stand, and hold what the entries say.
-use Rattle.std.proofs.Common.{◌≡◌, ◌≢◌, ◌<◌, ◌≤◌, eqb-true, ℕ, ◌+◌, ◌-◌, Bool, true, false, cond, List, [], ◌∷◌, Option, Some, None, refl, ap, sym, subst, ◌∙◌, arith}
-use Rattle.std.proofs.lemmas.Bool.{false≢true, true≢false, both_ways, not-false}
+use Rattle.std.proofs.Common.{◌≡◌, ◌≢◌, ◌<◌, ◌≤◌, ℕ, ◌+◌, ◌-◌, Bool, true, false, cond, List, [], ◌∷◌, Option, Some, None, refl, ap, sym, subst, ◌∙◌, arith}
+use Rattle.std.proofs.lemmas.Bool.{true≢false}
 use Rattle.std.proofs.lemmas.Bool.Decides.{nat_tests}
-use Rattle.std.specs.Prelude.{◌==◌, ◌&&◌, ◌||◌, not, is_none, nat_lt, nat_le, option_map}
-use Rattle.std.specs.Option.{option_or}
-use Rattle.nm_rules.specs.Parties.{Party, same_party}
-use Rattle.nm_rules.specs.Owners.{same_owner}
-use Rattle.nm_rules.specs.Locks.{barrier, is_inside, kind_at, IsJoined}
-use Rattle.nm_rules.specs.LockAsks.{kind_of, access_for, last_of, is_no_range, range_stop, lock_owner, counter_of, greatest}
+use Rattle.std.specs.Prelude.{◌==◌, ◌||◌, not, is_none, nat_lt, option_map}
+use Rattle.nm_types.specs.Parties.{Party}
+use Rattle.nm_rules.specs.Locks.{barrier, kind_at}
+use Rattle.nm_rules.specs.LockAsks.{kind_of, access_for, last_of, is_no_range, range_stop, lock_owner, counter_of}
+use Rattle.nm_types.specs.Calls.{greatest}
 use Rattle.nm_rules.specs.LockOps.{lock_checks, new_checks, known_checks, unlock_checks, release_checks, lock_fault, newcomer_stop, in_the_way, denied_stop, lock_value, locked_stateid, changed_lock, next_lock_stateid}
 use Rattle.nm_rules.specs.LockReadings.{locks_for, covers, locks_byte, unlocks_byte, or_before, byte_after, byte_lock}
-use Rattle.nm_rules.specs.LockRows.{LockWord, LocksStand, MayFollow, last_after, lock_at, lock_of, lock_in, lock_left, is_lock_of, new_lock, renewed_lock, claim_if, clear_if, ranges_on, locks_after, ranges_after, are_idle_with, go_together, may_put, is_known}
-use Rattle.nm_rules.specs.LockRows.LockWord.{AsIs, Claimed, Cleared, ClosedWith, Released, EndedOf}
+use Rattle.nm_rules.specs.LockRows.{LocksStand, MayFollow, last_after, lock_at, lock_of, lock_in, lock_left, new_lock, renewed_lock, claim_if, clear_if, ranges_on, are_idle_with, go_together, may_put, is_known}
+use Rattle.nm_rules.specs.LockRows.LockWord.{Claimed}
 use Rattle.nm_rules.specs.Checks.{Stop, first, refuse_if}
 use Rattle.nm_rules.specs.Checks.Stop.{Refuse, Repeat}
 use Rattle.nm_rules.specs.Data.{write_value}
 use Rattle.nm_rules.specs.Files.{create_value}
 use Rattle.nm_rules.specs.Opens.{close_checks, locks_stop, changed_stateid, next_stateid, open_value}
-use Rattle.nm_rules.specs.OwnerReadings.{is_owner}
-use Rattle.nm_rules.specs.Past.{Past, Now, Words, now, acts, words, no_words, is_done, deed_words, with_owners, close_words, confirm_words, downgrade_words, open_words, lock_words, unlock_words, released_words, lock_named_by, lock_owner_named}
+use Rattle.nm_rules.specs.Past.{Past, Now, Words, now, acts, words, no_words, deed_words, close_words, confirm_words, downgrade_words, lock_words, unlock_words, released_words, lock_owner_named}
+use Rattle.nm_types.specs.Statuses.{is_done}
 use Rattle.nm_rules.specs.Seen.{Seen, seen, look, after, after_words}
 use Rattle.nm_rules.specs.Stateids.{open_named, lock_named, lock_live_stop}
-use Rattle.nm_rules.specs.Answer.{answer_to, reply_by, refused_value, refusal_value, ok_value, checks, IsLegal}
-use Rattle.nm_rules.specs.declared.args.CloseArgs.{CloseArgs}
-use Rattle.nm_rules.specs.declared.args.LockArgs.{LockArgs}
-use Rattle.nm_rules.specs.declared.args.LockTestArgs.{LockTestArgs}
-use Rattle.nm_rules.specs.declared.args.Locker.{Locker}
-use Rattle.nm_rules.specs.declared.args.Locker.TheVariants.{New, Known}
-use Rattle.nm_rules.specs.declared.args.ReleaseLockOwnerArgs.{ReleaseLockOwnerArgs}
-use Rattle.nm_rules.specs.declared.args.UnlockArgs.{UnlockArgs}
-use Rattle.nm_rules.specs.declared.calls.Call.{Call}
-use Rattle.nm_rules.specs.declared.calls.Deed.{Deed}
-use Rattle.nm_rules.specs.declared.calls.Deed.TheVariants as deed
-use Rattle.nm_rules.specs.declared.calls.Event.{Event}
-use Rattle.nm_rules.specs.declared.calls.Event.TheVariants.{Asked, Ended}
-use Rattle.nm_rules.specs.declared.calls.Owner.{Owner}
-use Rattle.nm_rules.specs.declared.calls.Reply.{Reply}
-use Rattle.nm_rules.specs.declared.calls.ReplyValue.{ReplyValue}
-use Rattle.nm_rules.specs.declared.calls.ReplyValue.TheVariants as told
-use Rattle.nm_rules.specs.declared.calls.StateId.{StateId}
-use Rattle.nm_rules.specs.declared.calls.StateRef.{StateRef}
-use Rattle.nm_rules.specs.declared.calls.Verdict.{Verdict}
-use Rattle.nm_rules.specs.declared.results.Denied.{Denied}
-use Rattle.nm_rules.specs.declared.results.LockKind.{LockKind}
-use Rattle.nm_rules.specs.declared.results.LockOutcome.TheVariants.{Locked, Denied as IsDenied}
-use Rattle.nm_rules.specs.declared.results.Opened.{Opened}
-use Rattle.nm_rules.specs.declared.rows.FileLocks.{FileLocks}
-use Rattle.nm_rules.specs.declared.rows.Held.{Held}
-use Rattle.nm_rules.specs.declared.rows.LockRow.{LockRow}
-use Rattle.nm_rules.specs.declared.rows.OpenRow.{OpenRow}
-use Rattle.nm_rules.specs.declared.status.OpStatus.{OpStatus}
-use Rattle.nm_rules.specs.declared.status.OpStatus.TheVariants.{Inval, BadSeqid, LocksHeld, Denied as DeniedStatus}
+use Rattle.nm_rules.specs.Answer.{answer_to, reply_by, refused_value, ok_value, checks, IsLegal}
+use Rattle.nm_types.specs.declared.args.CloseArgs.{CloseArgs}
+use Rattle.nm_types.specs.declared.args.LockArgs.{LockArgs}
+use Rattle.nm_types.specs.declared.args.LockTestArgs.{LockTestArgs}
+use Rattle.nm_types.specs.declared.args.Locker.{Locker}
+use Rattle.nm_types.specs.declared.args.Locker.TheVariants.{New, Known}
+use Rattle.nm_types.specs.declared.args.ReleaseLockOwnerArgs.{ReleaseLockOwnerArgs}
+use Rattle.nm_types.specs.declared.args.UnlockArgs.{UnlockArgs}
+use Rattle.nm_types.specs.declared.calls.Deed.{Deed}
+use Rattle.nm_types.specs.declared.calls.Deed.TheVariants as deed
+use Rattle.nm_types.specs.declared.calls.Event.{Event}
+use Rattle.nm_types.specs.declared.calls.Event.TheVariants.{Asked, Ended}
+use Rattle.nm_types.specs.declared.calls.Owner.{Owner}
+use Rattle.nm_types.specs.declared.calls.Reply.{Reply}
+use Rattle.nm_types.specs.declared.calls.ReplyValue.{ReplyValue}
+use Rattle.nm_types.specs.declared.calls.ReplyValue.TheVariants as told
+use Rattle.nm_types.specs.declared.calls.StateId.{StateId}
+use Rattle.nm_types.specs.declared.calls.StateRef.{StateRef}
+use Rattle.nm_types.specs.declared.calls.Verdict.{Verdict}
+use Rattle.nm_types.specs.declared.results.Denied.{Denied}
+use Rattle.nm_types.specs.declared.results.LockKind.{LockKind}
+use Rattle.nm_types.specs.declared.results.LockOutcome.TheVariants.{Locked, Denied as IsDenied}
+use Rattle.nm_types.specs.declared.rows.FileLocks.{FileLocks}
+use Rattle.nm_types.specs.declared.rows.Held.{Held}
+use Rattle.nm_types.specs.declared.rows.LockRow.{LockRow}
+use Rattle.nm_types.specs.declared.rows.OpenRow.{OpenRow}
+use Rattle.nm_types.specs.declared.status.OpStatus.TheVariants.{Inval, BadSeqid, LocksHeld}
 use Rattle.nm_rules.proofs.Classes.{IsFree, all_free, or_none, refusal_none, refuse_if-none}
 use Rattle.nm_rules.proofs.Legal.{no_or, words-free, words-old, words-refused, repeat_is_old, free_is_fresh, look-seen, named_lock}
-use Rattle.nm_rules.proofs.LockRowLaws.{locks_rise-le, locks_rise-later, lock_at-past, same_number, other_number}
+use Rattle.nm_rules.proofs.LockRowLaws.{locks_rise-later, lock_at-past, same_number, other_number}
 use Rattle.nm_rules.proofs.LockTables.{held-after, stand-after, owners-apart}
 use Rattle.nm_rules.proofs.OwnerLemmas.{same_owner-Decides}
 use Rattle.nm_rules.proofs.Refusals.{by_refusal}

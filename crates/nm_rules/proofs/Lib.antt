@@ -17,7 +17,6 @@ pub mod OwnerLaws
 pub mod OwnerLemmas
 pub mod OwnerRows
 pub mod ParentLaws
-pub mod PartyLemmas
 pub mod RangeApart
 pub mod RangeBytes
 pub mod RangeLaws
@@ -28,4 +27,3 @@ pub mod RowLimit
 pub mod SeqidLaws
 pub mod ShareLaws
 pub mod StateidLaws
-pub mod WireLaws

@@ -1,47 +1,43 @@
 -- Files stay within their limits: how many there are, how long each is, and how long all are together.
-use Rattle.std.proofs.Common.{◌≡◌, ◌≤◌, ◌<◌, ℕ, ◌+◌, ◌-◌, Bool, true, false, cond, List, [], ◌∷◌, ◌++◌, length, replicate, Option, Some, None, refl, ap, sym, subst, ◌∙◌, arith, eqb-true, length-append}
+use Rattle.std.proofs.Common.{◌≡◌, ◌≤◌, ◌<◌, ℕ, ◌+◌, ◌-◌, Bool, true, false, cond, List, [], ◌∷◌, ◌++◌, length, replicate, Option, Some, None, refl, ap, sym, subst, ◌∙◌, arith, length-append}
 use Rattle.std.proofs.lemmas.List.{length-replicate}
-use Rattle.std.specs.Prelude.{find, option_map, map, filter, not, is_none, nat_le, nat_lt, max, unwrap_or, ◌&&◌, ◌||◌, ◌==◌}
-use Rattle.std.specs.Option.{option_or}
+use Rattle.std.specs.Prelude.{find, option_map, map, filter, not, nat_le, nat_lt, max, unwrap_or, ◌&&◌, ◌||◌, ◌==◌}
 use Rattle.std.specs.List.{list_all}
-use Rattle.std.proofs.lemmas.Bool.{false≢true, true≢false, both_ways}
+use Rattle.std.proofs.lemmas.Bool.{true≢false}
 use Rattle.std.proofs.lemmas.Bool.Decides.{nat_tests}
-use Rattle.nm_rules.specs.Parties.{Party}
-use Rattle.nm_rules.specs.Attributes.{Asks, asks_of, asked_size, asked_mode, has_size}
-use Rattle.nm_rules.specs.Contents.{TreeNow, TreeWord, FileEdit, files_limit, size_limit, total_limit, taken, sized, written, file_at, child_at, is_named, stamped, edited_at, edited, tree_after, total_size}
+use Rattle.nm_types.specs.Parties.{Party}
+use Rattle.nm_rules.specs.Attributes.{asks_of, asked_size, asked_mode, has_size}
+use Rattle.nm_rules.specs.Contents.{TreeNow, TreeWord, FileEdit, files_limit, size_limit, total_limit, taken, written, file_at, is_named, stamped, edited_at, edited, tree_after, total_size}
 use Rattle.nm_rules.specs.Contents.TreeWord.{Untouched, Made, Edited, Removed}
 use Rattle.nm_rules.specs.Contents.FileEdit.{Wrote, Set}
 use Rattle.nm_rules.specs.Lists.{is_empty}
-use Rattle.nm_rules.specs.Checks.{Stop, first, refuse_if}
+use Rattle.nm_rules.specs.Checks.{Stop, first}
 use Rattle.nm_rules.specs.Checks.Stop.{Refuse, Repeat}
-use Rattle.nm_rules.specs.Past.{Past, deed_words, words, open_words, close_words, confirm_words, downgrade_words, claimed_name, opentype_asks, open_tree, new_file, cuts, parent_of, set_tree, write_tree}
+use Rattle.nm_rules.specs.Past.{Past, deed_words, words, open_words, close_words, confirm_words, downgrade_words, claimed_name, opentype_asks, open_tree, cuts, parent_of, set_tree, write_tree}
 use Rattle.nm_rules.specs.Seen.{Seen, seen, look, after, after_words}
 use Rattle.nm_rules.specs.Answer.{IsLegal, answer_to, reply_by, ok_value, checks}
 use Rattle.nm_rules.specs.Data.{setattr_checks, size_checks, mode_checks, set_limit, write_checks, write_limit, write_value, written_size}
 use Rattle.nm_rules.specs.Files.{changes_past_end, create_checks, create_value, fills_up, makes_past_end, size_of, sized_limit}
 use Rattle.nm_rules.specs.LockOps.{lock_value, changed_lock}
-use Rattle.nm_rules.specs.Opens.{changed_stateid, next_stateid, open_checks, open_limit, open_value, target, target_at, tree_limit}
+use Rattle.nm_rules.specs.Opens.{changed_stateid, next_stateid, open_checks, open_limit, open_value, target, tree_limit}
 use Rattle.nm_rules.specs.Stateids.{open_named}
 use Rattle.nm_rules.specs.Sound.{IsSound, files_rise, fits_size, FilesFit}
-use Rattle.nm_rules.specs.declared.args.CreateArgs.{CreateArgs}
-use Rattle.nm_rules.specs.declared.args.OpenArgs.{OpenArgs}
-use Rattle.nm_rules.specs.declared.args.OpenType.{OpenType}
-use Rattle.nm_rules.specs.declared.args.SetAttrArgs.{SetAttrArgs}
-use Rattle.nm_rules.specs.declared.args.WriteArgs.{WriteArgs}
-use Rattle.nm_rules.specs.declared.calls.Call.{Call}
-use Rattle.nm_rules.specs.declared.calls.Deed.{Deed}
-use Rattle.nm_rules.specs.declared.calls.Deed.TheVariants as deed
-use Rattle.nm_rules.specs.declared.calls.Event.{Event}
-use Rattle.nm_rules.specs.declared.calls.Event.TheVariants.{Asked, Ended}
-use Rattle.nm_rules.specs.declared.calls.ReplyValue.TheVariants as told
-use Rattle.nm_rules.specs.declared.calls.StateId.{StateId}
-use Rattle.nm_rules.specs.declared.calls.Verdict.{Verdict}
-use Rattle.nm_rules.specs.declared.rows.FileRow.{FileRow}
-use Rattle.nm_rules.specs.declared.status.OpStatus.{OpStatus}
-use Rattle.nm_rules.specs.declared.status.OpStatus.TheVariants.{FBig, NoSpc, Resource}
+use Rattle.nm_types.specs.declared.args.CreateArgs.{CreateArgs}
+use Rattle.nm_types.specs.declared.args.OpenArgs.{OpenArgs}
+use Rattle.nm_types.specs.declared.args.OpenType.{OpenType}
+use Rattle.nm_types.specs.declared.args.SetAttrArgs.{SetAttrArgs}
+use Rattle.nm_types.specs.declared.args.WriteArgs.{WriteArgs}
+use Rattle.nm_types.specs.declared.calls.Deed.{Deed}
+use Rattle.nm_types.specs.declared.calls.Deed.TheVariants as deed
+use Rattle.nm_types.specs.declared.calls.Event.{Event}
+use Rattle.nm_types.specs.declared.calls.Event.TheVariants.{Asked, Ended}
+use Rattle.nm_types.specs.declared.calls.ReplyValue.TheVariants as told
+use Rattle.nm_types.specs.declared.calls.StateId.{StateId}
+use Rattle.nm_types.specs.declared.calls.Verdict.{Verdict}
+use Rattle.nm_types.specs.declared.rows.FileRow.{FileRow}
+use Rattle.nm_types.specs.declared.status.OpStatus.TheVariants.{FBig, NoSpc, Resource}
 use Rattle.nm_rules.proofs.Classes.{IsFree, all_free, or_none, refuse_if-none}
 use Rattle.nm_rules.proofs.FileLaws.{length-sized, length-written}
-use Rattle.nm_rules.proofs.FileRows.{file_at-below}
 use Rattle.nm_rules.proofs.Legal.{claimed_is_target, sound-seen, words-free, words-old, words-refused, repeat_is_old}
 use Rattle.nm_rules.proofs.LockRowLaws.{list_all-filter}
 use Rattle.nm_rules.proofs.OpenRows.{and_parts}

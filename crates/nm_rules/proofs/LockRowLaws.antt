@@ -1,15 +1,14 @@
 -- Laws of the stateids of locks: look-ups by owner and file after each word, and rising counters.
-use Rattle.std.proofs.Common.{◌≡◌, ◌≢◌, ◌<◌, ◌≤◌, eqb-true, ℕ, ◌+◌, Bool, true, false, cond, List, [], ◌∷◌, Option, Some, None, refl, ap, sym, subst, ◌∙◌, arith}
-use Rattle.std.proofs.lemmas.Bool.{false≢true, true≢false, both_ways, not-false}
+use Rattle.std.proofs.Common.{◌≡◌, ◌<◌, ◌≤◌, eqb-true, ℕ, ◌+◌, Bool, true, false, cond, List, [], ◌∷◌, Option, Some, None, refl, ap, sym, subst, ◌∙◌, arith}
+use Rattle.std.proofs.lemmas.Bool.{false≢true, true≢false, both_ways}
 use Rattle.std.specs.Prelude.{◌==◌, ◌&&◌, ◌||◌, not, filter, find, nat_lt}
 use Rattle.std.specs.List.{list_all, list_any}
 use Rattle.std.proofs.lemmas.Bool.Decides.{nat_tests}
-use Rattle.nm_rules.specs.Parties.{Party, same_party}
-use Rattle.nm_rules.specs.Owners.{same_owner}
-use Rattle.nm_rules.specs.LockRows.{lock_at, lock_of, is_lock_of, put_lock, locks_rise, differ, all_differ, is_on, is_lock_on, is_held_by, is_of}
-use Rattle.nm_rules.specs.declared.calls.Owner.{Owner}
-use Rattle.nm_rules.specs.declared.rows.LockRow.{LockRow}
-use Rattle.nm_rules.proofs.OwnerLemmas.{same_owner-Decides, same_owner-sym, same_party-Decides}
+use Rattle.nm_types.specs.Owners.{same_owner}
+use Rattle.nm_rules.specs.LockRows.{lock_at, lock_of, is_lock_of, put_lock, locks_rise, differ, all_differ, is_on, is_lock_on}
+use Rattle.nm_types.specs.declared.calls.Owner.{Owner}
+use Rattle.nm_types.specs.declared.rows.LockRow.{LockRow}
+use Rattle.nm_rules.proofs.OwnerLemmas.{same_owner-Decides, same_owner-sym}
 use Rattle.nm_rules.proofs.OpenRows.{and_parts}
 
 -- ---- counters

@@ -1,21 +1,20 @@
 -- Laws of the tables of locks: what each word leaves of them, and that no two owners' locks conflict.
-use Rattle.std.proofs.Common.{◌≡◌, ◌≢◌, ◌<◌, ◌≤◌, eqb-true, ℕ, ◌+◌, Bool, true, false, cond, List, [], ◌∷◌, Option, Some, None, refl, ap, sym, subst, ◌∙◌, arith}
+use Rattle.std.proofs.Common.{◌≡◌, ◌≢◌, ◌<◌, eqb-true, ℕ, ◌+◌, Bool, true, false, cond, List, [], ◌∷◌, Option, Some, None, refl, ap, sym, subst, ◌∙◌, arith}
 use Rattle.std.proofs.lemmas.Bool.{false≢true, true≢false, both_ways}
-use Rattle.std.specs.Prelude.{◌==◌, ◌&&◌, ◌||◌, not, option_map, filter, map, find, is_none, nat_lt, nat_le}
+use Rattle.std.specs.Prelude.{◌==◌, ◌&&◌, ◌||◌, not, option_map, filter, map, find, is_none, nat_le}
 use Rattle.std.specs.List.{list_all, list_any}
 use Rattle.std.proofs.lemmas.Bool.Decides.{nat_tests}
 use Rattle.nm_rules.specs.Lists.{is_empty}
-use Rattle.nm_rules.specs.Parties.{Party, same_party}
-use Rattle.nm_rules.specs.Owners.{same_owner}
-use Rattle.nm_rules.specs.Locks.{kind_at, holds_byte, kinds_conflict, holds, cleared, set_to, barrier, is_inside, stands_behind, stand_behind, are_joined, none_conflict, conflicts, conflicts_with, IsJoined}
-use Rattle.nm_rules.specs.LockRows.{LockWord, LocksStand, MayFollow, lock_at, lock_of, is_lock_of, ranges_on, put_file, put_ranges, held_by, lock_in, lock_left, locks_after, ranges_after, last_after, go_together, without, has_ranges, is_held_by, is_other_file, files_differ, is_on, is_lock_on, is_known, may_put, is_idle, are_idle_with, are_idle_of, put_lock, locks_rise, all_differ}
+use Rattle.nm_types.specs.Parties.{Party, same_party}
+use Rattle.nm_types.specs.Owners.{same_owner}
+use Rattle.nm_rules.specs.Locks.{kind_at, holds_byte, holds, cleared, set_to, is_inside, stands_behind, stand_behind, are_joined, none_conflict, conflicts, conflicts_with, IsJoined}
+use Rattle.nm_rules.specs.LockRows.{LockWord, LocksStand, MayFollow, lock_at, lock_of, is_lock_of, ranges_on, put_file, put_ranges, held_by, lock_in, lock_left, locks_after, ranges_after, last_after, go_together, without, has_ranges, is_held_by, is_other_file, files_differ, is_on, is_lock_on, is_known, may_put, is_idle, are_idle_with, are_idle_of, put_lock, locks_rise}
 use Rattle.nm_rules.specs.LockRows.LockWord.{AsIs, Claimed, Cleared, ClosedWith, Released, EndedOf}
-use Rattle.nm_rules.specs.declared.calls.Owner.{Owner}
-use Rattle.nm_rules.specs.declared.results.LockKind.{LockKind}
-use Rattle.nm_rules.specs.declared.rows.FileLocks.{FileLocks}
-use Rattle.nm_rules.specs.declared.rows.Held.{Held}
-use Rattle.nm_rules.specs.declared.rows.LockRow.{LockRow}
-use Rattle.nm_rules.proofs.OwnerLemmas.{same_owner-Decides, same_owner-sym, same_party-Decides}
+use Rattle.nm_types.specs.declared.calls.Owner.{Owner}
+use Rattle.nm_types.specs.declared.results.LockKind.{LockKind}
+use Rattle.nm_types.specs.declared.rows.FileLocks.{FileLocks}
+use Rattle.nm_types.specs.declared.rows.Held.{Held}
+use Rattle.nm_types.specs.declared.rows.LockRow.{LockRow}
 use Rattle.nm_rules.proofs.OpenRows.{and_parts}
 use Rattle.nm_rules.proofs.RangeApart.{free_at, none_meet, set_joined, cleared_joined}
 use Rattle.nm_rules.proofs.RangeBytes.{kind_at-set, kind_at-cleared}

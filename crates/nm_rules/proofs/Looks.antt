@@ -11,8 +11,8 @@ use Rattle.nm_rules.specs.Shares.OpenWord.{Keep, Put, Drop, DropOf}
 use Rattle.nm_rules.specs.Past.{Words, left}
 use Rattle.nm_rules.specs.Seen.{Seen, look, after_words}
 use Rattle.nm_rules.specs.Sound.{rises, files_rise}
-use Rattle.nm_rules.specs.declared.rows.FileRow.{FileRow}
-use Rattle.nm_rules.specs.declared.rows.OpenRow.{OpenRow}
+use Rattle.nm_types.specs.declared.rows.FileRow.{FileRow}
+use Rattle.nm_types.specs.declared.rows.OpenRow.{OpenRow}
 use Rattle.nm_rules.proofs.OpenRows.{open_at-put, open_at-drop, open_at-drop_of}
 use Rattle.nm_rules.proofs.OwnerRows.{owner_by-after}
 use Rattle.nm_rules.proofs.FileRows.{file_at-map, file_at-push, file_at-removed, child_at-map, child_at-push, made_child, child_at-removed, stamped_keeps, edited_keeps, kept_by}

@@ -1,15 +1,14 @@
 -- No two entries of one directory have one name, whatever is made, edited and removed.
-use Rattle.std.proofs.Common.{◌≡◌, ℕ, ◌+◌, Bool, true, false, cond, List, [], ◌∷◌, ◌++◌, Option, Some, None, refl, ap, sym, ◌∙◌, arith, eqb-true}
+use Rattle.std.proofs.Common.{◌≡◌, ◌+◌, Bool, true, false, cond, List, [], ◌∷◌, ◌++◌, Some, None, refl, sym, ◌∙◌, eqb-true}
 use Rattle.std.specs.Prelude.{find, option_map, map, filter, not, ◌&&◌, ◌==◌}
 use Rattle.std.specs.List.{list_all}
 use Rattle.std.specs.Str.{bytes_eq}
-use Rattle.std.proofs.lemmas.Bool.{false≢true, true≢false, both_ways}
-use Rattle.std.proofs.lemmas.Bool.Decides.{nat_tests}
+use Rattle.std.proofs.lemmas.Bool.{true≢false}
 use Rattle.std.proofs.lemmas.Slice.Eq.{bytes_eq-Decides}
 use Rattle.nm_rules.specs.Contents.{TreeNow, TreeWord, child_at, is_named, stamped, edited_at, tree_after}
 use Rattle.nm_rules.specs.Contents.TreeWord.{Untouched, Made, Edited, Removed}
 use Rattle.nm_rules.specs.Sound.{names_apart, all_named_apart}
-use Rattle.nm_rules.specs.declared.rows.FileRow.{FileRow}
+use Rattle.nm_types.specs.declared.rows.FileRow.{FileRow}
 use Rattle.nm_rules.proofs.OpenRows.{and_parts}
 use Rattle.nm_rules.proofs.FileRows.{Keeps, stamped_keeps, edited_keeps, child_at-map}
 use Rattle.nm_rules.proofs.LockRowLaws.{list_all-filter, same_number}

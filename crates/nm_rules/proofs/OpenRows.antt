@@ -3,11 +3,11 @@ use Rattle.std.proofs.Common.{◌≡◌, ◌≢◌, ◌<◌, eqb-true, ◌≤◌
 use Rattle.std.proofs.lemmas.Bool.{false≢true}
 use Rattle.std.specs.Prelude.{◌==◌, ◌&&◌, ◌⊎◌, not, filter, nat_lt}
 use Rattle.std.proofs.lemmas.Bool.Decides.{nat_tests}
-use Rattle.nm_rules.specs.Parties.{Party, same_party}
+use Rattle.nm_types.specs.Parties.{Party, same_party}
 use Rattle.nm_rules.specs.Shares.{open_at, open_left, put_open}
 use Rattle.nm_rules.specs.Shares.OpenWord.{DropOf}
 use Rattle.nm_rules.specs.Sound.{rises}
-use Rattle.nm_rules.specs.declared.rows.OpenRow.{OpenRow}
+use Rattle.nm_types.specs.declared.rows.OpenRow.{OpenRow}
 
 -- the row is one of these
 abbrev pub IsIn : OpenRow → List OpenRow → Type 0

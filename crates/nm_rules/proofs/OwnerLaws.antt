@@ -1,30 +1,32 @@
 -- The table of owners keeps what the entries say of each, and a call that came before changes nothing.
 use Rattle.std.proofs.Common.{◌≡◌, Bool, true, false, cond, List, [], ◌∷◌, Option, Some, None, refl, ap, sym, ◌∙◌, ℕ}
 use Rattle.std.specs.Prelude.{◌||◌}
-use Rattle.nm_rules.specs.Parties.{Party, same_party}
-use Rattle.nm_rules.specs.Owners.{same_owner}
+use Rattle.nm_types.specs.Parties.{Party, same_party}
+use Rattle.nm_types.specs.Owners.{same_owner}
 use Rattle.nm_rules.specs.LockAsks.{lock_owner}
 use Rattle.nm_rules.specs.LockRows.{locks_after, ranges_after}
 use Rattle.nm_rules.specs.Shares.{opens_after}
 use Rattle.nm_rules.specs.Contents.{tree_after}
-use Rattle.nm_rules.specs.Seqids.{advances, seqid_of, is_fresh, is_confirmed, without_recalls, owner_at, owners_after, owner_left, closed_after}
+use Rattle.nm_rules.specs.Seqids.{is_fresh, is_confirmed, without_recalls, owner_at, owners_after, owner_left, closed_after}
+use Rattle.nm_types.specs.Statuses.{advances, is_done}
+use Rattle.nm_types.specs.Calls.{seqid_of}
 use Rattle.nm_rules.specs.Seqids.OwnerWord.{Stays, Noted}
 use Rattle.nm_rules.specs.OwnerReadings.{is_owner, moves_on, first_of, first_seqid, started_with, is_named, names_owner, released_by, or_started, confirmed_by, was_confirmed, owner_now}
-use Rattle.nm_rules.specs.Past.{Past, Now, now, left, acts, started, started_by, ended, is_locked, is_released, words, no_words, is_done, confirms, judgement, seqid_owner, noted, noted_row, closed_by}
+use Rattle.nm_rules.specs.Past.{Past, Now, now, left, acts, started, started_by, ended, is_locked, is_released, words, no_words, confirms, judgement, seqid_owner, noted, noted_row, closed_by}
 use Rattle.nm_rules.specs.Seen.{Seen, seen, look, after, after_words}
 use Rattle.nm_rules.specs.Answer.{IsLegal}
-use Rattle.nm_rules.specs.declared.calls.Call.{Call}
-use Rattle.nm_rules.specs.declared.args.LockArgs.{LockArgs}
-use Rattle.nm_rules.specs.declared.args.Locker.{Locker}
-use Rattle.nm_rules.specs.declared.args.Locker.TheVariants.{New, Known}
-use Rattle.nm_rules.specs.declared.calls.Deed.{Deed}
-use Rattle.nm_rules.specs.declared.calls.Deed.TheVariants as deed
-use Rattle.nm_rules.specs.declared.calls.Event.{Event}
-use Rattle.nm_rules.specs.declared.calls.Event.TheVariants.{Asked, Ended}
-use Rattle.nm_rules.specs.declared.calls.Owner.{Owner}
-use Rattle.nm_rules.specs.declared.calls.Reply.{Reply}
-use Rattle.nm_rules.specs.declared.calls.Verdict.{Verdict}
-use Rattle.nm_rules.specs.declared.owners.OwnerRow.{OwnerRow}
+use Rattle.nm_types.specs.declared.calls.Call.{Call}
+use Rattle.nm_types.specs.declared.args.LockArgs.{LockArgs}
+use Rattle.nm_types.specs.declared.args.Locker.{Locker}
+use Rattle.nm_types.specs.declared.args.Locker.TheVariants.{New, Known}
+use Rattle.nm_types.specs.declared.calls.Deed.{Deed}
+use Rattle.nm_types.specs.declared.calls.Deed.TheVariants as deed
+use Rattle.nm_types.specs.declared.calls.Event.{Event}
+use Rattle.nm_types.specs.declared.calls.Event.TheVariants.{Asked, Ended}
+use Rattle.nm_types.specs.declared.calls.Owner.{Owner}
+use Rattle.nm_types.specs.declared.calls.Reply.{Reply}
+use Rattle.nm_types.specs.declared.calls.Verdict.{Verdict}
+use Rattle.nm_types.specs.declared.owners.OwnerRow.{OwnerRow}
 use Rattle.nm_rules.proofs.OwnerLemmas.{same_owner-Decides}
 use Rattle.nm_rules.proofs.Legal.{look-seen, words-old}
 

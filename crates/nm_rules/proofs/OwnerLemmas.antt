@@ -3,11 +3,11 @@ use Rattle.std.proofs.Common.{◌≡◌, refl, ap, sym}
 use Rattle.std.specs.Bool.{Decides}
 use Rattle.std.proofs.lemmas.Bool.Decides.{Decides-eqb, Decides-and, Decides-like, same_from_decides}
 use Rattle.std.proofs.lemmas.Slice.Eq.{bytes_eq-Decides}
-use Rattle.nm_rules.specs.Parties.{Party, same_party}
-use Rattle.nm_rules.specs.Owners.{same_kind, same_owner}
-use Rattle.nm_rules.specs.declared.calls.Owner.{Owner}
-use Rattle.nm_rules.specs.declared.calls.OwnerKind.{OwnerKind}
-use Rattle.nm_rules.specs.declared.calls.OwnerKind.TheVariants.{Opens, Locks}
+use Rattle.nm_types.specs.Parties.{Party, same_party}
+use Rattle.nm_types.specs.Owners.{same_kind, same_owner}
+use Rattle.nm_types.specs.declared.calls.Owner.{Owner}
+use Rattle.nm_types.specs.declared.calls.OwnerKind.{OwnerKind}
+use Rattle.nm_types.specs.declared.calls.OwnerKind.TheVariants.{Opens, Locks}
 
 pub same_kind-Decides : (a b : OwnerKind) → Decides (same_kind a b) (a ≡ b)
 same_kind-Decides Opens Opens = (λ _. refl, λ _. refl)

@@ -1,13 +1,12 @@
 -- No two owners hold conflicting locks at a byte, and what a lock meets first.
-use Rattle.std.proofs.Common.{◌≡◌, ◌≢◌, ◌≤◌, ◌<◌, ℕ, ◌+◌, ◌-◌, suc, Bool, true, false, cond, List, [], ◌∷◌, ◌++◌, Option, Some, None, refl, ap, sym, subst, ◌∙◌, inl, inr, arith, eqb-true}
-use Rattle.std.proofs.lemmas.Bool.{false≢true, and_parts, and_from, leb-true, leb-false, ltb-true, ltb-false, le-leb, eq-eqb, ne_eqb, false_from_ne_true, true_from_ne_false, both_ways}
-use Rattle.std.proofs.lemmas.Bool.Decides.{nat_tests}
-use Rattle.std.specs.Prelude.{◌==◌, ◌&&◌, ◌||◌, ◌⊎◌, ◌↔◌, not, nat_lt, nat_le, filter}
-use Rattle.std.specs.List.{list_any, list_all}
+use Rattle.std.proofs.Common.{◌≡◌, ◌≢◌, ◌≤◌, ◌<◌, ℕ, ◌+◌, Bool, true, false, cond, List, [], ◌∷◌, Option, Some, None, refl, ap, sym, subst, ◌∙◌, inl, inr, arith, eqb-true}
+use Rattle.std.proofs.lemmas.Bool.{false≢true, and_parts, and_from, leb-true, leb-false, ltb-true, ltb-false, le-leb, eq-eqb, ne_eqb, false_from_ne_true, both_ways}
+use Rattle.std.specs.Prelude.{◌==◌, ◌&&◌, ◌⊎◌, not, nat_lt, nat_le}
+use Rattle.std.specs.List.{list_any}
 use Rattle.nm_rules.specs.Locks.{IsBarrier, IsFree, IsJoined, IsRow, barrier, cleared, conflicts, conflicts_with, dropped, is_before, is_in_way, is_inside, is_range, kind_at, kinds_conflict, met, nearest, none_conflict, overlaps, same_lock, set_to, touches}
-use Rattle.nm_rules.specs.declared.results.LockKind.{LockKind}
-use Rattle.nm_rules.specs.declared.results.LockKind.TheVariants.{Read, Write}
-use Rattle.nm_rules.specs.declared.rows.Held.{Held}
+use Rattle.nm_types.specs.declared.results.LockKind.{LockKind}
+use Rattle.nm_types.specs.declared.results.LockKind.TheVariants.{Read, Write}
+use Rattle.nm_types.specs.declared.rows.Held.{Held}
 use Rattle.nm_rules.proofs.RangeRows.{all_in, any_from, before_tells, cleared_rises, dropped_rises, follows, follows_before, in_order, joined_of, none_in, ranges_in, ranges_rise, rise_of, rise_parts, same_lock-self}
 use Rattle.nm_rules.proofs.RangeBytes.{covers, held_kind, kind_at-cleared, kind_at-dropped, kind_at-set, kind_is, set_rises}
 

@@ -1,10 +1,10 @@
 -- Laws of the ranges of one file, as the laws of a file system's locks cite them.
-use Rattle.std.proofs.Common.{◌≡◌, ◌≢◌, ◌≤◌, ℕ, Bool, true, false, cond, List, Option, Some, None, refl, ap, sym, ◌∙◌}
+use Rattle.std.proofs.Common.{◌≡◌, ◌≤◌, ℕ, true, false, cond, List, Some, None, ap, sym, ◌∙◌}
 use Rattle.std.proofs.lemmas.Bool.{and_parts, eqb-false, leb-true}
 use Rattle.std.specs.Prelude.{◌==◌, ◌&&◌, nat_le}
 use Rattle.nm_rules.specs.Locks.{are_joined, barrier, cleared, conflicts_with, is_inside, kind_at, kinds_conflict, set_to}
-use Rattle.nm_rules.specs.declared.results.LockKind.{LockKind}
-use Rattle.nm_rules.specs.declared.rows.Held.{Held}
+use Rattle.nm_types.specs.declared.results.LockKind.{LockKind}
+use Rattle.nm_types.specs.declared.rows.Held.{Held}
 use Rattle.nm_rules.proofs.RangeRows.{cleared_rises, joined_of, rise_of}
 use Rattle.nm_rules.proofs.RangeBytes as bytes
 use Rattle.nm_rules.proofs.RangeApart.{free_range}

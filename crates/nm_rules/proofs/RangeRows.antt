@@ -4,10 +4,10 @@ use Rattle.std.proofs.lemmas.Bool.{false≢true, and_parts, and_from, leb-true, 
 use Rattle.std.proofs.lemmas.Bool.Decides.{nat_tests}
 use Rattle.std.specs.Prelude.{◌==◌, ◌&&◌, ◌||◌, ◌⊎◌, not, nat_lt, nat_le, filter, flat_map}
 use Rattle.std.specs.List.{list_any, list_all}
-use Rattle.nm_rules.specs.Locks.{IsRow, are_joined, before_of, behind_of, cleared, cut, dropped, is_before, is_range, joined, joined_after, overlaps, put_range, same_lock, stand_behind, stands_behind, touches}
-use Rattle.nm_rules.specs.declared.results.LockKind.{LockKind}
-use Rattle.nm_rules.specs.declared.results.LockKind.TheVariants.{Read, Write}
-use Rattle.nm_rules.specs.declared.rows.Held.{Held}
+use Rattle.nm_rules.specs.Locks.{IsRow, are_joined, cleared, cut, dropped, is_before, is_range, joined, joined_after, overlaps, put_range, same_lock, stand_behind, stands_behind, touches}
+use Rattle.nm_types.specs.declared.results.LockKind.{LockKind}
+use Rattle.nm_types.specs.declared.results.LockKind.TheVariants.{Read, Write}
+use Rattle.nm_types.specs.declared.rows.Held.{Held}
 
 -- ---- Tests of all rows
 

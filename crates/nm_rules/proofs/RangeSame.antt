@@ -1,10 +1,10 @@
 -- Two lists of rows that hold the same at each byte are the same.
-use Rattle.std.proofs.Common.{◌≡◌, ◌≢◌, ◌≤◌, ◌<◌, ℕ, ◌+◌, Bool, true, false, cond, List, [], ◌∷◌, Option, Some, None, refl, ap, sym, subst, ◌∙◌, inl, inr, arith, eqb-true}
+use Rattle.std.proofs.Common.{◌≡◌, ◌≤◌, ◌<◌, ℕ, ◌+◌, Bool, true, false, cond, List, [], ◌∷◌, Option, Some, None, refl, ap, sym, subst, ◌∙◌, inl, inr, arith, eqb-true}
 use Rattle.std.proofs.lemmas.Bool.{and_parts, leb-true, cases_lt}
 use Rattle.std.specs.Prelude.{◌==◌, ◌&&◌, ◌⊎◌}
 use Rattle.nm_rules.specs.Locks.{IsRow, is_before, kind_at}
-use Rattle.nm_rules.specs.declared.results.LockKind.{LockKind}
-use Rattle.nm_rules.specs.declared.rows.Held.{Held}
+use Rattle.nm_types.specs.declared.results.LockKind.{LockKind}
+use Rattle.nm_types.specs.declared.rows.Held.{Held}
 use Rattle.nm_rules.proofs.RangeRows.{all_in, before_tells, follows, follows_before, ranges_rise, rise_parts}
 use Rattle.nm_rules.proofs.RangeBytes.{covers, held_kind, kind_is}
 use Rattle.nm_rules.proofs.RangeApart.{IsAt, apart_bytes, cover_from, cover_parts, kind_of_row, not_behind_row, row_at}

@@ -1,36 +1,32 @@
 -- What a refusal's value can be, and what locks leave alone.
 use Rattle.std.proofs.Common.{◌≡◌, ℕ, Bool, true, false, cond, List, Option, Some, None, refl}
 use Rattle.std.specs.Prelude.{option_map}
-use Rattle.nm_rules.specs.Parties.{Party}
-use Rattle.nm_rules.specs.Contents.{TreeWord}
+use Rattle.nm_types.specs.Parties.{Party}
 use Rattle.nm_rules.specs.Contents.TreeWord.{Untouched}
-use Rattle.nm_rules.specs.LockRows.{lock_at, renewed_lock}
 use Rattle.nm_rules.specs.LockOps.{lock_value, lock_denied, test_denied}
-use Rattle.nm_rules.specs.Shares.{OpenWord}
 use Rattle.nm_rules.specs.Shares.OpenWord.{Keep}
 use Rattle.nm_rules.specs.LockAsks.{lock_owner}
 use Rattle.nm_rules.specs.Seqids.{OwnerWord}
 use Rattle.nm_rules.specs.Seqids.OwnerWord.{Stays, Noted, Gone}
-use Rattle.nm_rules.specs.Past.{Now, Words, no_words, noted_row, started, started_by, lock_starts, ended, lock_words, locked_words, unlock_words, released_words, release_words}
+use Rattle.nm_rules.specs.Past.{Now, Words, noted_row, started, started_by, lock_starts, ended, lock_words, locked_words, unlock_words, release_words}
 use Rattle.nm_rules.specs.Seen.{Seen, look}
 use Rattle.nm_rules.specs.Answer.{ok_value, refused_value, denied_value, refusal_value, is_denial}
-use Rattle.nm_rules.specs.declared.args.LockArgs.{LockArgs}
-use Rattle.nm_rules.specs.declared.args.LockTestArgs.{LockTestArgs}
-use Rattle.nm_rules.specs.declared.args.Locker.{Locker}
-use Rattle.nm_rules.specs.declared.args.Locker.TheVariants.{New, Known}
-use Rattle.nm_rules.specs.declared.args.UnlockArgs.{UnlockArgs}
-use Rattle.nm_rules.specs.declared.calls.Call.{Call}
-use Rattle.nm_rules.specs.declared.calls.Deed.{Deed}
-use Rattle.nm_rules.specs.declared.calls.Deed.TheVariants as deed
-use Rattle.nm_rules.specs.declared.calls.Reply.{Reply}
-use Rattle.nm_rules.specs.declared.calls.ReplyValue.{ReplyValue}
-use Rattle.nm_rules.specs.declared.calls.ReplyValue.TheVariants as told
-use Rattle.nm_rules.specs.declared.calls.StateId.{StateId}
-use Rattle.nm_rules.specs.declared.results.Denied.{Denied}
-use Rattle.nm_rules.specs.declared.results.LockOutcome.{LockOutcome}
-use Rattle.nm_rules.specs.declared.results.LockOutcome.TheVariants.{Locked, Denied as IsDenied}
-use Rattle.nm_rules.specs.declared.rows.LockRow.{LockRow}
-use Rattle.nm_rules.specs.declared.status.OpStatus.{OpStatus}
+use Rattle.nm_types.specs.declared.args.LockArgs.{LockArgs}
+use Rattle.nm_types.specs.declared.args.LockTestArgs.{LockTestArgs}
+use Rattle.nm_types.specs.declared.args.Locker.{Locker}
+use Rattle.nm_types.specs.declared.args.Locker.TheVariants.{New, Known}
+use Rattle.nm_types.specs.declared.args.UnlockArgs.{UnlockArgs}
+use Rattle.nm_types.specs.declared.calls.Call.{Call}
+use Rattle.nm_types.specs.declared.calls.Deed.{Deed}
+use Rattle.nm_types.specs.declared.calls.Deed.TheVariants as deed
+use Rattle.nm_types.specs.declared.calls.Reply.{Reply}
+use Rattle.nm_types.specs.declared.calls.ReplyValue.{ReplyValue}
+use Rattle.nm_types.specs.declared.calls.ReplyValue.TheVariants as told
+use Rattle.nm_types.specs.declared.calls.StateId.{StateId}
+use Rattle.nm_types.specs.declared.results.Denied.{Denied}
+use Rattle.nm_types.specs.declared.results.LockOutcome.{LockOutcome}
+use Rattle.nm_types.specs.declared.results.LockOutcome.TheVariants.{Locked, Denied as IsDenied}
+use Rattle.nm_types.specs.declared.status.OpStatus.{OpStatus}
 
 -- A refusal carries what every refusal of its operation does, or what is in the way of a lock.
 pub by_refusal : (P : Deed → ReplyValue → Type 0) → ((d : Deed) → P d (refused_value d))

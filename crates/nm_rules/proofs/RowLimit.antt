@@ -1,19 +1,19 @@
 -- No more rows are taken than there may be.
-use Rattle.std.proofs.Common.{◌≡◌, ◌≤◌, ◌<◌, ℕ, ◌+◌, Bool, true, false, cond, List, [], ◌∷◌, ◌++◌, Option, Some, None, refl, ap, sym, subst, ◌∙◌, arith, eqb-true}
+use Rattle.std.proofs.Common.{◌≡◌, ◌≤◌, ℕ, ◌+◌, Bool, true, false, cond, List, [], ◌∷◌, ◌++◌, Option, Some, None, refl, ap, sym, subst, ◌∙◌, arith, eqb-true}
 use Rattle.std.specs.Prelude.{length, not, is_none, nat_le, nat_lt, find, filter, map, option_map, ◌==◌}
 use Rattle.std.specs.Option.{option_or}
-use Rattle.std.specs.List.{list_all}
 use Rattle.std.proofs.lemmas.Bool.{false≢true, true≢false}
 use Rattle.std.proofs.lemmas.Bool.Decides.{nat_tests}
-use Rattle.nm_rules.specs.Parties.{Party, same_party}
-use Rattle.nm_rules.specs.Owners.{same_owner}
-use Rattle.nm_rules.specs.Seqids.{OwnerWord, advances, is_fresh, judged, seqid_of, owner_at, put_owner, owners_after, closed_after, listed}
+use Rattle.nm_types.specs.Parties.{Party, same_party}
+use Rattle.nm_types.specs.Owners.{same_owner}
+use Rattle.nm_rules.specs.Seqids.{OwnerWord, is_fresh, owner_at, put_owner, owners_after, closed_after, listed}
+use Rattle.nm_types.specs.Statuses.{advances}
+use Rattle.nm_types.specs.Calls.{seqid_of}
 use Rattle.nm_rules.specs.Seqids.OwnerWord.{Stays, Noted, Gone, GoneOf}
 use Rattle.nm_rules.specs.Shares.{OpenWord, open_at, open_of, opened_row, renewed_row, narrowed_row, put_if, put_open, opens_after}
-use Rattle.nm_rules.specs.Shares.OpenWord.{Keep, Put, Drop, DropOf}
-use Rattle.nm_rules.specs.Past.{Past, Now, Words, no_words, lock_named_by, lock_owner_named, locker_owner, started, started_by, lock_starts, lock_words, unlock_words, deed_words, noted, noted_row, closed_by, owner_word, judgement, named_by, owner_named, seqid_owner, with_owners, words, opener, open_words, close_words, confirm_words, downgrade_words}
+use Rattle.nm_rules.specs.Past.{Past, Now, Words, no_words, lock_named_by, lock_owner_named, locker_owner, started, started_by, lock_starts, lock_words, unlock_words, deed_words, noted, noted_row, closed_by, judgement, named_by, owner_named, seqid_owner, with_owners, words, opener, open_words, close_words, confirm_words, downgrade_words}
 use Rattle.nm_rules.specs.Seen.{Seen, seen, look, after, after_words}
-use Rattle.nm_rules.specs.Checks.{Stop, Checks, first, refusal, behind_seqid}
+use Rattle.nm_rules.specs.Checks.{Stop, first, refusal, behind_seqid}
 use Rattle.nm_rules.specs.Checks.Stop.{Refuse, Repeat}
 use Rattle.nm_rules.specs.Data.{write_value}
 use Rattle.nm_rules.specs.Files.{create_value}
@@ -26,38 +26,38 @@ use Rattle.nm_rules.specs.LockRows.LockWord.{AsIs, Claimed, Cleared, ClosedWith,
 use Rattle.nm_rules.specs.Stateids.{open_named, lock_named, owner_stop, live_stop, lock_stop, lock_live_stop}
 use Rattle.nm_rules.specs.Answer.{answer_to, reply_by, reply_with, ok_value, checks, IsLegal}
 use Rattle.nm_rules.specs.Sound.{is_known, is_locker, OwnersAreKnown, IsSound}
-use Rattle.nm_rules.specs.declared.args.Claim.{Claim}
-use Rattle.nm_rules.specs.declared.args.Claim.TheVariants.{Null, Previous, DelegateCur, DelegatePrev}
-use Rattle.nm_rules.specs.declared.args.CloseArgs.{CloseArgs}
-use Rattle.nm_rules.specs.declared.args.LockArgs.{LockArgs}
-use Rattle.nm_rules.specs.declared.args.Locker.{Locker}
-use Rattle.nm_rules.specs.declared.args.Locker.TheVariants as locker
-use Rattle.nm_rules.specs.declared.args.OpenArgs.{OpenArgs}
-use Rattle.nm_rules.specs.declared.args.OpenConfirmArgs.{OpenConfirmArgs}
-use Rattle.nm_rules.specs.declared.args.OpenDowngradeArgs.{OpenDowngradeArgs}
-use Rattle.nm_rules.specs.declared.args.UnlockArgs.{UnlockArgs}
-use Rattle.nm_rules.specs.declared.calls.Call.{Call}
-use Rattle.nm_rules.specs.declared.calls.Deed.{Deed}
-use Rattle.nm_rules.specs.declared.calls.Deed.TheVariants as deed
-use Rattle.nm_rules.specs.declared.calls.Event.{Event}
-use Rattle.nm_rules.specs.declared.calls.Event.TheVariants.{Asked, Ended}
-use Rattle.nm_rules.specs.declared.calls.Owner.{Owner}
-use Rattle.nm_rules.specs.declared.calls.Reply.{Reply}
-use Rattle.nm_rules.specs.declared.calls.ReplyValue.{ReplyValue}
-use Rattle.nm_rules.specs.declared.calls.ReplyValue.TheVariants as told
-use Rattle.nm_rules.specs.declared.calls.StateId.{StateId}
-use Rattle.nm_rules.specs.declared.calls.StateRef.{StateRef}
-use Rattle.nm_rules.specs.declared.calls.StateRef.TheVariants.{Zeros, Ones, Named}
-use Rattle.nm_rules.specs.declared.calls.Verdict.{Verdict}
-use Rattle.nm_rules.specs.declared.owners.OwnerRow.{OwnerRow}
-use Rattle.nm_rules.specs.declared.results.LockOutcome.TheVariants.{Locked}
-use Rattle.nm_rules.specs.declared.results.Opened.{Opened}
-use Rattle.nm_rules.specs.declared.rows.FileLocks.{FileLocks}
-use Rattle.nm_rules.specs.declared.rows.Held.{Held}
-use Rattle.nm_rules.specs.declared.rows.LockRow.{LockRow}
-use Rattle.nm_rules.specs.declared.rows.OpenRow.{OpenRow}
-use Rattle.nm_rules.specs.declared.status.OpStatus.{OpStatus}
-use Rattle.nm_rules.specs.declared.status.OpStatus.TheVariants.{Nfs4Ok, BadStateId, Resource}
+use Rattle.nm_types.specs.declared.args.Claim.{Claim}
+use Rattle.nm_types.specs.declared.args.Claim.TheVariants.{Null, Previous, DelegateCur, DelegatePrev}
+use Rattle.nm_types.specs.declared.args.CloseArgs.{CloseArgs}
+use Rattle.nm_types.specs.declared.args.LockArgs.{LockArgs}
+use Rattle.nm_types.specs.declared.args.Locker.{Locker}
+use Rattle.nm_types.specs.declared.args.Locker.TheVariants as locker
+use Rattle.nm_types.specs.declared.args.OpenArgs.{OpenArgs}
+use Rattle.nm_types.specs.declared.args.OpenConfirmArgs.{OpenConfirmArgs}
+use Rattle.nm_types.specs.declared.args.OpenDowngradeArgs.{OpenDowngradeArgs}
+use Rattle.nm_types.specs.declared.args.UnlockArgs.{UnlockArgs}
+use Rattle.nm_types.specs.declared.calls.Call.{Call}
+use Rattle.nm_types.specs.declared.calls.Deed.{Deed}
+use Rattle.nm_types.specs.declared.calls.Deed.TheVariants as deed
+use Rattle.nm_types.specs.declared.calls.Event.{Event}
+use Rattle.nm_types.specs.declared.calls.Event.TheVariants.{Asked, Ended}
+use Rattle.nm_types.specs.declared.calls.Owner.{Owner}
+use Rattle.nm_types.specs.declared.calls.Reply.{Reply}
+use Rattle.nm_types.specs.declared.calls.ReplyValue.{ReplyValue}
+use Rattle.nm_types.specs.declared.calls.ReplyValue.TheVariants as told
+use Rattle.nm_types.specs.declared.calls.StateId.{StateId}
+use Rattle.nm_types.specs.declared.calls.StateRef.{StateRef}
+use Rattle.nm_types.specs.declared.calls.StateRef.TheVariants.{Zeros, Ones, Named}
+use Rattle.nm_types.specs.declared.calls.Verdict.{Verdict}
+use Rattle.nm_types.specs.declared.owners.OwnerRow.{OwnerRow}
+use Rattle.nm_types.specs.declared.results.LockOutcome.TheVariants.{Locked}
+use Rattle.nm_types.specs.declared.results.Opened.{Opened}
+use Rattle.nm_types.specs.declared.rows.FileLocks.{FileLocks}
+use Rattle.nm_types.specs.declared.rows.Held.{Held}
+use Rattle.nm_types.specs.declared.rows.LockRow.{LockRow}
+use Rattle.nm_types.specs.declared.rows.OpenRow.{OpenRow}
+use Rattle.nm_types.specs.declared.status.OpStatus.{OpStatus}
+use Rattle.nm_types.specs.declared.status.OpStatus.TheVariants.{Nfs4Ok, BadStateId, Resource}
 use Rattle.nm_rules.proofs.Legal.{words-free, words-old, words-refused, repeat_is_old, sound-seen, drew_new, same_row, put_row}
 use Rattle.nm_rules.proofs.Classes.{IsFree, all_free, or_none, refuse_if-none}
 use Rattle.nm_rules.proofs.ClosedLaws.{live_named}

@@ -2,37 +2,39 @@
 use Rattle.std.proofs.Common.{◌≡◌, ◌<◌, ◌≤◌, ◌+◌, ℕ, zero, suc, Bool, true, false, cond, List, [], ◌∷◌, Option, Some, None, refl, ap, sym, ◌∙◌, inl, inr, arith, eqb-true}
 use Rattle.std.specs.Prelude.{◌==◌, ◌&&◌, ◌⊎◌, option_map, slice_get}
 use Rattle.std.proofs.lemmas.Bool.{not-false}
-use Rattle.nm_rules.specs.Parties.{Party, same_party}
+use Rattle.nm_types.specs.Parties.{Party, same_party}
 use Rattle.nm_rules.specs.LockAsks.{lock_owner}
 use Rattle.nm_rules.specs.LockOps.{lock_checks, lock_value, newcomer_stop, is_out_of_turn}
 use Rattle.nm_rules.specs.Checks.{Stop, first}
 use Rattle.nm_rules.specs.Checks.Stop.{Refuse, Repeat}
-use Rattle.nm_rules.specs.Owners.{same_owner}
+use Rattle.nm_types.specs.Owners.{same_owner}
 use Rattle.nm_rules.specs.Repeats.{same_call}
 use Rattle.nm_rules.specs.Shares.{next_seqid}
-use Rattle.nm_rules.specs.Seqids.{advances, seqid_of, judged, is_fresh, owner_at}
+use Rattle.nm_rules.specs.Seqids.{judged, is_fresh, owner_at}
+use Rattle.nm_types.specs.Statuses.{advances}
+use Rattle.nm_types.specs.Calls.{seqid_of}
 use Rattle.nm_rules.specs.OwnerReadings.{is_owner, moves_on, first_of, first_seqid, started_with, released_by, or_started, or_first, confirmed_by, was_confirmed, owner_now, seqids_of}
 use Rattle.nm_rules.specs.Past.{Past, Now, now, acts, is_locked, judgement_for, seqid_owner}
 use Rattle.nm_rules.specs.Seen.{Seen, seen, look}
 use Rattle.nm_rules.specs.Answer.{answer_to, reply_by, refused_value, refusal_value, ok_value, checks, IsLegal}
-use Rattle.nm_rules.specs.declared.args.LockArgs.{LockArgs}
-use Rattle.nm_rules.specs.declared.args.LockTestArgs.{LockTestArgs}
-use Rattle.nm_rules.specs.declared.args.Locker.{Locker}
-use Rattle.nm_rules.specs.declared.args.Locker.TheVariants.{New, Known}
-use Rattle.nm_rules.specs.declared.calls.Call.{Call}
-use Rattle.nm_rules.specs.declared.calls.Deed.{Deed}
-use Rattle.nm_rules.specs.declared.calls.Deed.TheVariants as deed
-use Rattle.nm_rules.specs.declared.calls.Event.{Event}
-use Rattle.nm_rules.specs.declared.calls.Event.TheVariants.{Asked, Ended}
-use Rattle.nm_rules.specs.declared.calls.Owner.{Owner}
-use Rattle.nm_rules.specs.declared.calls.Reply.{Reply}
-use Rattle.nm_rules.specs.declared.calls.ReplyValue.TheVariants as told
-use Rattle.nm_rules.specs.declared.calls.Verdict.{Verdict}
-use Rattle.nm_rules.specs.declared.results.Denied.{Denied}
-use Rattle.nm_rules.specs.declared.results.LockOutcome.TheVariants.{Denied as IsDenied}
-use Rattle.nm_rules.specs.declared.status.OpStatus.TheVariants.{BadSeqid}
-use Rattle.nm_rules.specs.declared.owners.Judgement.TheVariants as judged_as
-use Rattle.nm_rules.specs.declared.owners.OwnerRow.{OwnerRow}
+use Rattle.nm_types.specs.declared.args.LockArgs.{LockArgs}
+use Rattle.nm_types.specs.declared.args.LockTestArgs.{LockTestArgs}
+use Rattle.nm_types.specs.declared.args.Locker.{Locker}
+use Rattle.nm_types.specs.declared.args.Locker.TheVariants.{New, Known}
+use Rattle.nm_types.specs.declared.calls.Call.{Call}
+use Rattle.nm_types.specs.declared.calls.Deed.{Deed}
+use Rattle.nm_types.specs.declared.calls.Deed.TheVariants as deed
+use Rattle.nm_types.specs.declared.calls.Event.{Event}
+use Rattle.nm_types.specs.declared.calls.Event.TheVariants.{Asked, Ended}
+use Rattle.nm_types.specs.declared.calls.Owner.{Owner}
+use Rattle.nm_types.specs.declared.calls.Reply.{Reply}
+use Rattle.nm_types.specs.declared.calls.ReplyValue.TheVariants as told
+use Rattle.nm_types.specs.declared.calls.Verdict.{Verdict}
+use Rattle.nm_types.specs.declared.results.Denied.{Denied}
+use Rattle.nm_types.specs.declared.results.LockOutcome.TheVariants.{Denied as IsDenied}
+use Rattle.nm_types.specs.declared.status.OpStatus.TheVariants.{BadSeqid}
+use Rattle.nm_types.specs.declared.owners.Judgement.TheVariants as judged_as
+use Rattle.nm_types.specs.declared.owners.OwnerRow.{OwnerRow}
 use Rattle.nm_rules.proofs.OwnerLemmas.{same_owner-Decides}
 use Rattle.nm_rules.proofs.Classes.{IsFree, all_free, or_none, refusal_none, refuse_if-none}
 use Rattle.nm_rules.proofs.Legal.{no_or, repeat_is_old, look-seen}

@@ -2,9 +2,10 @@
 use Rattle.std.proofs.Common.{◌≡◌, Bool, true, false, cond, [], ◌∷◌, Option, Some, None, refl, ap, sym, subst, ◌∙◌, ℕ, ◌+◌}
 use Rattle.std.proofs.lemmas.Bool.{false≢true}
 use Rattle.std.specs.Prelude.{is_none, option_map}
-use Rattle.nm_rules.specs.Parties.{Party}
+use Rattle.nm_types.specs.Parties.{Party}
 use Rattle.nm_rules.specs.Shares.{open_of, opened_row}
-use Rattle.nm_rules.specs.Past.{Past, Words, now, words, acts, is_done, deed_words, close_words, confirm_words, downgrade_words, lock_words, unlock_words, opener}
+use Rattle.nm_rules.specs.Past.{Past, Words, now, words, acts, deed_words, close_words, confirm_words, downgrade_words, lock_words, unlock_words, opener}
+use Rattle.nm_types.specs.Statuses.{is_done}
 use Rattle.nm_rules.specs.Seen.{Seen, seen, look, after_words}
 use Rattle.nm_rules.specs.Readings.{Share, row_share, share_in, share_of}
 use Rattle.nm_rules.specs.StateidReadings.{is_newcomer, makes_one, makes, stateids_made, TellsCounter}
@@ -16,23 +17,23 @@ use Rattle.nm_rules.specs.LockOps.{lock_value, locked_stateid, changed_lock}
 use Rattle.nm_rules.specs.Opens.{open_checks, open_value, row_to_open, file_to_open}
 use Rattle.nm_rules.specs.Answer.{answer_to, reply_by, refused_value, refusal_value, ok_value, checks, IsLegal}
 use Rattle.nm_rules.specs.Sound.{IsSound}
-use Rattle.nm_rules.specs.declared.args.Locker.{Locker}
-use Rattle.nm_rules.specs.declared.args.Locker.TheVariants.{New, Known}
-use Rattle.nm_rules.specs.declared.calls.Call.{Call}
-use Rattle.nm_rules.specs.declared.calls.Deed.{Deed}
-use Rattle.nm_rules.specs.declared.calls.Deed.TheVariants as deed
-use Rattle.nm_rules.specs.declared.calls.Event.{Event}
-use Rattle.nm_rules.specs.declared.calls.Event.TheVariants.{Asked, Ended}
-use Rattle.nm_rules.specs.declared.calls.Owner.{Owner}
-use Rattle.nm_rules.specs.declared.calls.Reply.{Reply}
-use Rattle.nm_rules.specs.declared.calls.ReplyValue.TheVariants as told
-use Rattle.nm_rules.specs.declared.calls.StateId.{StateId}
-use Rattle.nm_rules.specs.declared.calls.StateRef.{StateRef}
-use Rattle.nm_rules.specs.declared.calls.Verdict.{Verdict}
-use Rattle.nm_rules.specs.declared.results.Denied.{Denied}
-use Rattle.nm_rules.specs.declared.results.LockOutcome.TheVariants.{Locked, Denied as IsDenied}
-use Rattle.nm_rules.specs.declared.rows.OpenRow.{OpenRow}
-use Rattle.nm_rules.specs.declared.status.OpStatus.{OpStatus}
+use Rattle.nm_types.specs.declared.args.Locker.{Locker}
+use Rattle.nm_types.specs.declared.args.Locker.TheVariants.{New, Known}
+use Rattle.nm_types.specs.declared.calls.Call.{Call}
+use Rattle.nm_types.specs.declared.calls.Deed.{Deed}
+use Rattle.nm_types.specs.declared.calls.Deed.TheVariants as deed
+use Rattle.nm_types.specs.declared.calls.Event.{Event}
+use Rattle.nm_types.specs.declared.calls.Event.TheVariants.{Asked, Ended}
+use Rattle.nm_types.specs.declared.calls.Owner.{Owner}
+use Rattle.nm_types.specs.declared.calls.Reply.{Reply}
+use Rattle.nm_types.specs.declared.calls.ReplyValue.TheVariants as told
+use Rattle.nm_types.specs.declared.calls.StateId.{StateId}
+use Rattle.nm_types.specs.declared.calls.StateRef.{StateRef}
+use Rattle.nm_types.specs.declared.calls.Verdict.{Verdict}
+use Rattle.nm_types.specs.declared.results.Denied.{Denied}
+use Rattle.nm_types.specs.declared.results.LockOutcome.TheVariants.{Locked, Denied as IsDenied}
+use Rattle.nm_types.specs.declared.rows.OpenRow.{OpenRow}
+use Rattle.nm_types.specs.declared.status.OpStatus.{OpStatus}
 use Rattle.nm_rules.proofs.Legal.{drew_new, free_is_fresh, repeat_is_old, words-free, words-old, words-refused, sound-seen, look-seen}
 use Rattle.nm_rules.proofs.Refusals.{by_refusal}
 use Rattle.nm_rules.proofs.ShareLaws.{share-seen}

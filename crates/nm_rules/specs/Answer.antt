@@ -1,7 +1,7 @@
 -- What the unmoving server answers: the first class of refusal that applies, read off the entries so far, else the value
 -- of the operation.
 use Rattle.std.specs.Prelude.{◌≡◌, ℕ, Bool, true, false, [], ◌∷◌, Option, Some, None, option_map, if◌then◌else◌}
-use Rattle.nm_rules.specs.Parties.{Party}
+use Rattle.nm_types.specs.Parties.{Party}
 use Rattle.nm_rules.specs.Past.{Past}
 use Rattle.nm_rules.specs.Seen.{Seen, seen}
 use Rattle.nm_rules.specs.Checks.{Checks, Stop, first}
@@ -10,18 +10,18 @@ use Rattle.nm_rules.specs.Data.{commit_checks, read_checks, read_value, write_ch
 use Rattle.nm_rules.specs.Files.{current, child, file_checks, dir_checks, access_value, create_checks, create_value, getattr_value, lookup_checks, readdir_checks, readdir_value, remove_checks, changed_dir}
 use Rattle.nm_rules.specs.Opens.{open_checks, open_value, close_checks, confirm_checks, downgrade_checks, changed_stateid}
 use Rattle.nm_rules.specs.LockOps.{lock_checks, lock_value, lock_denied, test_checks, test_denied, unlock_checks, changed_lock, release_checks}
-use Rattle.nm_rules.specs.declared.calls.Call.{Call}
-use Rattle.nm_rules.specs.declared.calls.Deed.{Deed}
-use Rattle.nm_rules.specs.declared.calls.Deed.TheVariants as deed
-use Rattle.nm_rules.specs.declared.calls.Verdict.{Verdict}
-use Rattle.nm_rules.specs.declared.calls.Event.{Event}
-use Rattle.nm_rules.specs.declared.calls.Event.TheVariants.{Asked, Ended}
-use Rattle.nm_rules.specs.declared.calls.Reply.{Reply}
-use Rattle.nm_rules.specs.declared.calls.ReplyValue.{ReplyValue}
-use Rattle.nm_rules.specs.declared.calls.ReplyValue.TheVariants as told
-use Rattle.nm_rules.specs.declared.results.LockOutcome.TheVariants.{Denied as IsDenied}
-use Rattle.nm_rules.specs.declared.status.OpStatus.{OpStatus}
-use Rattle.nm_rules.specs.declared.status.OpStatus.TheVariants.{Nfs4Ok, Denied as DeniedStatus}
+use Rattle.nm_types.specs.declared.calls.Call.{Call}
+use Rattle.nm_types.specs.declared.calls.Deed.{Deed}
+use Rattle.nm_types.specs.declared.calls.Deed.TheVariants as deed
+use Rattle.nm_types.specs.declared.calls.Verdict.{Verdict}
+use Rattle.nm_types.specs.declared.calls.Event.{Event}
+use Rattle.nm_types.specs.declared.calls.Event.TheVariants.{Asked, Ended}
+use Rattle.nm_types.specs.declared.calls.Reply.{Reply}
+use Rattle.nm_types.specs.declared.calls.ReplyValue.{ReplyValue}
+use Rattle.nm_types.specs.declared.calls.ReplyValue.TheVariants as told
+use Rattle.nm_types.specs.declared.results.LockOutcome.TheVariants.{Denied as IsDenied}
+use Rattle.nm_types.specs.declared.status.OpStatus.{OpStatus}
+use Rattle.nm_types.specs.declared.status.OpStatus.TheVariants.{Nfs4Ok, Denied as DeniedStatus}
 
 -- the classes that apply, by operation
 abbrev pub checks : Seen → Option Party → ℕ → Verdict → Deed → Checks

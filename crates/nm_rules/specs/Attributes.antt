@@ -1,7 +1,7 @@
 -- The attributes that a request sets: of the supported ones (RFC 7530, 5.8) size and mode alone can be set.
 use Rattle.std.specs.Prelude.{◌==◌, ◌&&◌, not, ℕ, Bool, true, false, List, [], ◌∷◌, Option, Some, None, drop, length, bit_and, bit_or, if◌then◌else◌}
-use Rattle.nm_rules.specs.Wire.{word_in, hyper_in}
-use Rattle.nm_rules.specs.declared.args.Fattr.{Fattr}
+use Rattle.nm_types.specs.Wire.{word_in, hyper_in}
+use Rattle.nm_types.specs.declared.args.Fattr.{Fattr}
 
 -- What attributes ask for, as they came.
 pub data Asks : Type 0 where

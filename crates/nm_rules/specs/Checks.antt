@@ -5,12 +5,12 @@ use Rattle.nm_rules.specs.Lists.{is_empty}
 use Rattle.nm_rules.specs.Attributes.{Asks, is_invalid, is_unsupported}
 use Rattle.nm_rules.specs.Contents.{is_directory}
 use Rattle.nm_rules.specs.Names.{name_fault}
-use Rattle.nm_rules.specs.declared.calls.Reply.{Reply}
-use Rattle.nm_rules.specs.declared.calls.Verdict.{Verdict}
-use Rattle.nm_rules.specs.declared.calls.Verdict.TheVariants.{Pass, LeaseMoved}
-use Rattle.nm_rules.specs.declared.rows.FileRow.{FileRow}
-use Rattle.nm_rules.specs.declared.status.OpStatus.{OpStatus}
-use Rattle.nm_rules.specs.declared.status.OpStatus.TheVariants.{Stale, Inval, AttrNotSupp, LeaseMoved as LeaseMovedStatus}
+use Rattle.nm_types.specs.declared.calls.Reply.{Reply}
+use Rattle.nm_types.specs.declared.calls.Verdict.{Verdict}
+use Rattle.nm_types.specs.declared.calls.Verdict.TheVariants.{Pass, LeaseMoved}
+use Rattle.nm_types.specs.declared.rows.FileRow.{FileRow}
+use Rattle.nm_types.specs.declared.status.OpStatus.{OpStatus}
+use Rattle.nm_types.specs.declared.status.OpStatus.TheVariants.{Stale, Inval, AttrNotSupp, LeaseMoved as LeaseMovedStatus}
 
 -- Why a call isn't carried out.
 pub data Stop : Type 0 where

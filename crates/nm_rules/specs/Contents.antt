@@ -1,9 +1,9 @@
 -- The files and directories of a file system, their names and their bytes.
 use Rattle.std.specs.Prelude.{◌==◌, ◌&&◌, not, ℕ, ◌+◌, ◌-◌, Bool, true, false, List, [], ◌∷◌, ◌++◌, length, take, drop, replicate, map, filter, find, Option, Some, None, option_map, unwrap_or, if◌then◌else◌}
 use Rattle.std.specs.Str.{bytes_eq}
-use Rattle.nm_rules.specs.declared.rows.FileKind.{FileKind}
-use Rattle.nm_rules.specs.declared.rows.FileKind.TheVariants.{File, Directory}
-use Rattle.nm_rules.specs.declared.rows.FileRow.{FileRow}
+use Rattle.nm_types.specs.declared.rows.FileKind.{FileKind}
+use Rattle.nm_types.specs.declared.rows.FileKind.TheVariants.{File, Directory}
+use Rattle.nm_types.specs.declared.rows.FileRow.{FileRow}
 
 -- Files and directories by rising number, the greatest number that one was given, and the number of the latest change.
 -- The root is file 1, and the first one that is made has number 16.

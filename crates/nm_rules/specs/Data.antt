@@ -9,19 +9,19 @@ use Rattle.nm_rules.specs.Contents.{size_limit, transfer_limit, part, taken}
 use Rattle.nm_rules.specs.Files.{current, changes_past_end, size_of, fills_up, sized_limit}
 use Rattle.nm_rules.specs.Opens.{is_denied}
 use Rattle.nm_rules.specs.Stateids.{open_named, lock_named, resolved, any_unresolved, any_stop}
-use Rattle.nm_rules.specs.Parties.{Party}
+use Rattle.nm_types.specs.Parties.{Party}
 use Rattle.nm_rules.specs.Seen.{Seen}
-use Rattle.nm_rules.specs.declared.args.ReadArgs.{ReadArgs}
-use Rattle.nm_rules.specs.declared.args.SetAttrArgs.{SetAttrArgs}
-use Rattle.nm_rules.specs.declared.args.WriteArgs.{WriteArgs}
-use Rattle.nm_rules.specs.declared.calls.StateRef.{StateRef}
-use Rattle.nm_rules.specs.declared.calls.StateRef.TheVariants.{Zeros, Ones, Named}
-use Rattle.nm_rules.specs.declared.calls.Verdict.{Verdict}
-use Rattle.nm_rules.specs.declared.results.ReadOk.{ReadOk}
-use Rattle.nm_rules.specs.declared.results.WriteOk.{WriteOk}
-use Rattle.nm_rules.specs.declared.rows.FileRow.{FileRow}
-use Rattle.nm_rules.specs.declared.status.OpStatus.{OpStatus}
-use Rattle.nm_rules.specs.declared.status.OpStatus.TheVariants.{IsDir, Inval, AttrNotSupp, BadStateId, Locked, FBig, NoSpc, Resource}
+use Rattle.nm_types.specs.declared.args.ReadArgs.{ReadArgs}
+use Rattle.nm_types.specs.declared.args.SetAttrArgs.{SetAttrArgs}
+use Rattle.nm_types.specs.declared.args.WriteArgs.{WriteArgs}
+use Rattle.nm_types.specs.declared.calls.StateRef.{StateRef}
+use Rattle.nm_types.specs.declared.calls.StateRef.TheVariants.{Zeros, Ones, Named}
+use Rattle.nm_types.specs.declared.calls.Verdict.{Verdict}
+use Rattle.nm_types.specs.declared.results.ReadOk.{ReadOk}
+use Rattle.nm_types.specs.declared.results.WriteOk.{WriteOk}
+use Rattle.nm_types.specs.declared.rows.FileRow.{FileRow}
+use Rattle.nm_types.specs.declared.status.OpStatus.{OpStatus}
+use Rattle.nm_types.specs.declared.status.OpStatus.TheVariants.{IsDir, Inval, AttrNotSupp, BadStateId, Locked, FBig, NoSpc, Resource}
 
 -- ---- stateids
 

@@ -8,26 +8,26 @@ use Rattle.nm_rules.specs.Attributes.{Asks, asks_of, asked_size, asked_mode, set
 use Rattle.nm_rules.specs.Checks.{Checks, nothing_stops, refuse_if, lease_stop, missing_stop, is_no_dir, arguments_fault, name_stop}
 use Rattle.nm_rules.specs.Contents.{files_limit, size_limit, total_limit, file_at, child_at, is_directory, is_entry_of, total_size}
 use Rattle.nm_rules.specs.Seen.{Seen}
-use Rattle.nm_rules.specs.declared.args.AccessArgs.{AccessArgs}
-use Rattle.nm_rules.specs.declared.args.CreateArgs.{CreateArgs}
-use Rattle.nm_rules.specs.declared.args.CreateType.{CreateType}
-use Rattle.nm_rules.specs.declared.args.CreateType.TheVariants as create_type
-use Rattle.nm_rules.specs.declared.args.GetAttrArgs.{GetAttrArgs}
-use Rattle.nm_rules.specs.declared.args.LookupArgs.{LookupArgs}
-use Rattle.nm_rules.specs.declared.args.ReadDirArgs.{ReadDirArgs}
-use Rattle.nm_rules.specs.declared.args.RemoveArgs.{RemoveArgs}
-use Rattle.nm_rules.specs.declared.calls.Verdict.{Verdict}
-use Rattle.nm_rules.specs.declared.results.AccessOk.{AccessOk}
-use Rattle.nm_rules.specs.declared.results.ChangeInfo.{ChangeInfo}
-use Rattle.nm_rules.specs.declared.results.Created.{Created}
-use Rattle.nm_rules.specs.declared.results.DirEntry.{DirEntry}
-use Rattle.nm_rules.specs.declared.results.FileAttrs.{FileAttrs}
-use Rattle.nm_rules.specs.declared.results.GetAttrOk.{GetAttrOk}
-use Rattle.nm_rules.specs.declared.results.ReadDirOk.{ReadDirOk}
-use Rattle.nm_rules.specs.declared.rows.FileRow.{FileRow}
-use Rattle.nm_rules.specs.declared.rows.OpenRow.{OpenRow}
-use Rattle.nm_rules.specs.declared.status.OpStatus.{OpStatus}
-use Rattle.nm_rules.specs.declared.status.OpStatus.TheVariants.{NotDir, NoEnt, Exist, NotSupp, BadType, NotSame, NotEmpty, FileOpen, FBig, NoSpc, Resource, TooSmall}
+use Rattle.nm_types.specs.declared.args.AccessArgs.{AccessArgs}
+use Rattle.nm_types.specs.declared.args.CreateArgs.{CreateArgs}
+use Rattle.nm_types.specs.declared.args.CreateType.{CreateType}
+use Rattle.nm_types.specs.declared.args.CreateType.TheVariants as create_type
+use Rattle.nm_types.specs.declared.args.GetAttrArgs.{GetAttrArgs}
+use Rattle.nm_types.specs.declared.args.LookupArgs.{LookupArgs}
+use Rattle.nm_types.specs.declared.args.ReadDirArgs.{ReadDirArgs}
+use Rattle.nm_types.specs.declared.args.RemoveArgs.{RemoveArgs}
+use Rattle.nm_types.specs.declared.calls.Verdict.{Verdict}
+use Rattle.nm_types.specs.declared.results.AccessOk.{AccessOk}
+use Rattle.nm_types.specs.declared.results.ChangeInfo.{ChangeInfo}
+use Rattle.nm_types.specs.declared.results.Created.{Created}
+use Rattle.nm_types.specs.declared.results.DirEntry.{DirEntry}
+use Rattle.nm_types.specs.declared.results.FileAttrs.{FileAttrs}
+use Rattle.nm_types.specs.declared.results.GetAttrOk.{GetAttrOk}
+use Rattle.nm_types.specs.declared.results.ReadDirOk.{ReadDirOk}
+use Rattle.nm_types.specs.declared.rows.FileRow.{FileRow}
+use Rattle.nm_types.specs.declared.rows.OpenRow.{OpenRow}
+use Rattle.nm_types.specs.declared.status.OpStatus.{OpStatus}
+use Rattle.nm_types.specs.declared.status.OpStatus.TheVariants.{NotDir, NoEnt, Exist, NotSupp, BadType, NotSame, NotEmpty, FileOpen, FBig, NoSpc, Resource, TooSmall}
 
 -- ---- what they share
 

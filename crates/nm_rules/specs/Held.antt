@@ -3,14 +3,14 @@ use Rattle.std.specs.Prelude.{◌==◌, nat_lt, ℕ, List, [], ◌∷◌, filter
 use Rattle.nm_rules.specs.Contents.{name_at}
 use Rattle.nm_rules.specs.LockRows.{ranges_on}
 use Rattle.nm_rules.specs.Seen.{Seen}
-use Rattle.nm_rules.specs.declared.results.LockRange.{LockRange}
-use Rattle.nm_rules.specs.declared.rows.FileLocks.{FileLocks}
-use Rattle.nm_rules.specs.declared.rows.FileRow.{FileRow}
-use Rattle.nm_rules.specs.declared.rows.Held.{Held}
-use Rattle.nm_rules.specs.declared.rows.LockRow.{LockRow}
-use Rattle.nm_rules.specs.declared.rows.OpenRow.{OpenRow}
-use Rattle.nm_rules.specs.declared.table.HeldKind.TheVariants.{Open as OpenHeld, Lock as LockHeld}
-use Rattle.nm_rules.specs.declared.table.HeldRow.{HeldRow}
+use Rattle.nm_types.specs.declared.results.LockRange.{LockRange}
+use Rattle.nm_types.specs.declared.rows.FileLocks.{FileLocks}
+use Rattle.nm_types.specs.declared.rows.FileRow.{FileRow}
+use Rattle.nm_types.specs.declared.rows.Held.{Held}
+use Rattle.nm_types.specs.declared.rows.LockRow.{LockRow}
+use Rattle.nm_types.specs.declared.rows.OpenRow.{OpenRow}
+use Rattle.nm_types.specs.declared.table.HeldKind.TheVariants.{Open as OpenHeld, Lock as LockHeld}
+use Rattle.nm_types.specs.declared.table.HeldRow.{HeldRow}
 
 -- an open as it is shown, with its file's name
 unfoldable pub held_row : List FileRow → OpenRow → HeldRow

@@ -1,4 +1,3 @@
-pub mod Actions
 pub mod Answer
 pub mod Attributes
 pub mod Checks
@@ -17,8 +16,6 @@ pub mod Locks
 pub mod Names
 pub mod Opens
 pub mod OwnerReadings
-pub mod Owners
-pub mod Parties
 pub mod Past
 pub mod Readings
 pub mod Repeats
@@ -28,5 +25,3 @@ pub mod Shares
 pub mod Sound
 pub mod StateidReadings
 pub mod Stateids
-pub mod Statuses
-pub mod Wire

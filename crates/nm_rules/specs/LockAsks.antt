@@ -1,17 +1,18 @@
 -- What the arguments of operations on byte-range locks ask for (RFC 7530, 16.10, 16.11 and 16.12).
 use Rattle.std.specs.Prelude.{◌==◌, ◌||◌, nat_lt, ℕ, ◌+◌, ◌-◌, Bool, List, Option, if◌then◌else◌}
-use Rattle.nm_rules.specs.Parties.{Party}
+use Rattle.nm_types.specs.Calls.{greatest}
+use Rattle.nm_types.specs.Parties.{Party}
 use Rattle.nm_rules.specs.Checks.{refuse_if}
-use Rattle.nm_rules.specs.declared.args.LockType.{LockType}
-use Rattle.nm_rules.specs.declared.args.LockType.TheVariants as asked
-use Rattle.nm_rules.specs.declared.calls.Owner.{Owner}
-use Rattle.nm_rules.specs.declared.calls.OwnerKind.TheVariants.{Locks}
-use Rattle.nm_rules.specs.declared.calls.StateRef.{StateRef}
-use Rattle.nm_rules.specs.declared.calls.StateRef.TheVariants.{Zeros, Ones, Named}
-use Rattle.nm_rules.specs.declared.results.LockKind.{LockKind}
-use Rattle.nm_rules.specs.declared.results.LockKind.TheVariants.{Read, Write}
-use Rattle.nm_rules.specs.declared.status.OpStatus.{OpStatus}
-use Rattle.nm_rules.specs.declared.status.OpStatus.TheVariants.{Inval}
+use Rattle.nm_types.specs.declared.args.LockType.{LockType}
+use Rattle.nm_types.specs.declared.args.LockType.TheVariants as asked
+use Rattle.nm_types.specs.declared.calls.Owner.{Owner}
+use Rattle.nm_types.specs.declared.calls.OwnerKind.TheVariants.{Locks}
+use Rattle.nm_types.specs.declared.calls.StateRef.{StateRef}
+use Rattle.nm_types.specs.declared.calls.StateRef.TheVariants.{Zeros, Ones, Named}
+use Rattle.nm_types.specs.declared.results.LockKind.{LockKind}
+use Rattle.nm_types.specs.declared.results.LockKind.TheVariants.{Read, Write}
+use Rattle.nm_types.specs.declared.status.OpStatus.{OpStatus}
+use Rattle.nm_types.specs.declared.status.OpStatus.TheVariants.{Inval}
 
 -- that a client will ask again changes nothing
 unfoldable pub kind_of : LockType → LockKind
@@ -24,10 +25,6 @@ kind_of asked.WriteWait = Write
 unfoldable pub access_for : LockKind → ℕ
 access_for Read = 1
 access_for Write = 2
-
--- the length of a range that reaches to the end of every file, and the last byte of all
-abbrev pub greatest : ℕ
-greatest = 18446744073709551615
 
 -- the last byte of a range
 unfoldable pub last_of : ℕ → ℕ → ℕ

@@ -1,41 +1,39 @@
 -- Operations on byte-range locks (RFC 7530, 16.10, 16.11, 16.12 and 16.37): when each is refused, and what its OK tells.
-use Rattle.std.specs.Prelude.{◌==◌, ◌||◌, ◌^◌, not, nat_le, nat_lt, ℕ, ◌+◌, Bool, false, List, length, filter, Option, Some, None, option_map, is_none, if◌then◌else◌}
+use Rattle.std.specs.Prelude.{◌==◌, ◌||◌, ◌^◌, not, nat_le, nat_lt, ℕ, ◌+◌, Bool, false, List, length, filter, Option, Some, None, option_map, is_none}
 use Rattle.std.specs.Option.{option_and_then, option_or}
-use Rattle.nm_rules.specs.Parties.{Party}
-use Rattle.nm_rules.specs.Owners.{same_owner}
+use Rattle.nm_types.specs.Parties.{Party}
+use Rattle.nm_types.specs.Owners.{same_owner}
 use Rattle.nm_rules.specs.Locks.{barrier, cleared, set_to}
 use Rattle.nm_rules.specs.LockAsks.{kind_of, access_for, last_of, range_stop, lock_owner, counter_of}
 use Rattle.nm_rules.specs.LockRows.{lock_at, lock_of, ranges_on, put_ranges, ranges_taken, are_idle_of}
 use Rattle.nm_rules.specs.Seqids.{owner_at}
 use Rattle.nm_rules.specs.Shares.{next_seqid}
 use Rattle.nm_rules.specs.Seen.{Seen}
-use Rattle.nm_rules.specs.Checks.{Checks, Stop, nothing_stops, refusal, refuse_if, lease_stop, missing_stop, is_dir}
+use Rattle.nm_rules.specs.Checks.{Checks, nothing_stops, refusal, refuse_if, lease_stop, missing_stop, is_dir}
 use Rattle.nm_rules.specs.Files.{current}
 use Rattle.nm_rules.specs.Opens.{one_if, rows_limit}
 use Rattle.nm_rules.specs.Stateids.{open_named, resolved, lock_named, unresolved_at, lock_unresolved, owner_stop_at, lock_owner_stop_at, live_stop, lock_live_stop}
-use Rattle.nm_rules.specs.declared.args.LockArgs.{LockArgs}
-use Rattle.nm_rules.specs.declared.args.LockTestArgs.{LockTestArgs}
-use Rattle.nm_rules.specs.declared.args.LockType.{LockType}
-use Rattle.nm_rules.specs.declared.args.Locker.{Locker}
-use Rattle.nm_rules.specs.declared.args.Locker.TheVariants.{New, Known}
-use Rattle.nm_rules.specs.declared.args.ReleaseLockOwnerArgs.{ReleaseLockOwnerArgs}
-use Rattle.nm_rules.specs.declared.args.UnlockArgs.{UnlockArgs}
-use Rattle.nm_rules.specs.declared.calls.Deed.TheVariants as deed
-use Rattle.nm_rules.specs.declared.calls.Owner.{Owner}
-use Rattle.nm_rules.specs.declared.calls.StateId.{StateId}
-use Rattle.nm_rules.specs.declared.calls.StateRef.{StateRef}
-use Rattle.nm_rules.specs.declared.calls.Verdict.{Verdict}
-use Rattle.nm_rules.specs.declared.owners.OwnerRow.{OwnerRow}
-use Rattle.nm_rules.specs.declared.results.Denied.{Denied}
-use Rattle.nm_rules.specs.declared.results.LockKind.{LockKind}
-use Rattle.nm_rules.specs.declared.results.LockOutcome.{LockOutcome}
-use Rattle.nm_rules.specs.declared.results.LockOutcome.TheVariants.{Locked}
-use Rattle.nm_rules.specs.declared.rows.FileLocks.{FileLocks}
-use Rattle.nm_rules.specs.declared.rows.Held.{Held}
-use Rattle.nm_rules.specs.declared.rows.LockRow.{LockRow}
-use Rattle.nm_rules.specs.declared.rows.OpenRow.{OpenRow}
-use Rattle.nm_rules.specs.declared.status.OpStatus.{OpStatus}
-use Rattle.nm_rules.specs.declared.status.OpStatus.TheVariants as status
+use Rattle.nm_types.specs.declared.args.LockArgs.{LockArgs}
+use Rattle.nm_types.specs.declared.args.LockTestArgs.{LockTestArgs}
+use Rattle.nm_types.specs.declared.args.LockType.{LockType}
+use Rattle.nm_types.specs.declared.args.Locker.{Locker}
+use Rattle.nm_types.specs.declared.args.Locker.TheVariants.{New, Known}
+use Rattle.nm_types.specs.declared.args.ReleaseLockOwnerArgs.{ReleaseLockOwnerArgs}
+use Rattle.nm_types.specs.declared.args.UnlockArgs.{UnlockArgs}
+use Rattle.nm_types.specs.declared.calls.Deed.TheVariants as deed
+use Rattle.nm_types.specs.declared.calls.Owner.{Owner}
+use Rattle.nm_types.specs.declared.calls.StateId.{StateId}
+use Rattle.nm_types.specs.declared.calls.StateRef.{StateRef}
+use Rattle.nm_types.specs.declared.calls.Verdict.{Verdict}
+use Rattle.nm_types.specs.declared.owners.OwnerRow.{OwnerRow}
+use Rattle.nm_types.specs.declared.results.Denied.{Denied}
+use Rattle.nm_types.specs.declared.results.LockOutcome.{LockOutcome}
+use Rattle.nm_types.specs.declared.results.LockOutcome.TheVariants.{Locked}
+use Rattle.nm_types.specs.declared.rows.Held.{Held}
+use Rattle.nm_types.specs.declared.rows.LockRow.{LockRow}
+use Rattle.nm_types.specs.declared.rows.OpenRow.{OpenRow}
+use Rattle.nm_types.specs.declared.status.OpStatus.{OpStatus}
+use Rattle.nm_types.specs.declared.status.OpStatus.TheVariants as status
 
 -- ---- what they share
 

@@ -1,21 +1,21 @@
 -- What an owner locks, in the standard's words, read off the entries alone (RFC 7530, 9.1 and 16.10 to 16.12).
 use Rattle.std.specs.Prelude.{ℕ, ◌==◌, ◌&&◌, Bool, true, false, [], ◌∷◌, Option, Some, None, if◌then◌else◌}
-use Rattle.nm_rules.specs.Parties.{Party, same_party}
+use Rattle.nm_types.specs.Parties.{Party, same_party}
 use Rattle.nm_rules.specs.Locks.{is_inside}
 use Rattle.nm_rules.specs.LockAsks.{kind_of, last_of, lock_owner}
 use Rattle.nm_rules.specs.OwnerReadings.{is_owner}
 use Rattle.nm_rules.specs.Past.{Past, Now, now, acts, is_locked, lock_owner_named}
-use Rattle.nm_rules.specs.declared.args.Locker.{Locker}
-use Rattle.nm_rules.specs.declared.args.Locker.TheVariants.{New, Known}
-use Rattle.nm_rules.specs.declared.calls.Deed.{Deed}
-use Rattle.nm_rules.specs.declared.calls.Deed.TheVariants as deed
-use Rattle.nm_rules.specs.declared.calls.Event.{Event}
-use Rattle.nm_rules.specs.declared.calls.Event.TheVariants.{Asked, Ended}
-use Rattle.nm_rules.specs.declared.calls.Owner.{Owner}
-use Rattle.nm_rules.specs.declared.calls.Reply.{Reply}
-use Rattle.nm_rules.specs.declared.calls.ReplyValue.{ReplyValue}
-use Rattle.nm_rules.specs.declared.calls.ReplyValue.TheVariants as told
-use Rattle.nm_rules.specs.declared.results.LockKind.{LockKind}
+use Rattle.nm_types.specs.declared.args.Locker.{Locker}
+use Rattle.nm_types.specs.declared.args.Locker.TheVariants.{New, Known}
+use Rattle.nm_types.specs.declared.calls.Deed.{Deed}
+use Rattle.nm_types.specs.declared.calls.Deed.TheVariants as deed
+use Rattle.nm_types.specs.declared.calls.Event.{Event}
+use Rattle.nm_types.specs.declared.calls.Event.TheVariants.{Asked, Ended}
+use Rattle.nm_types.specs.declared.calls.Owner.{Owner}
+use Rattle.nm_types.specs.declared.calls.Reply.{Reply}
+use Rattle.nm_types.specs.declared.calls.ReplyValue.{ReplyValue}
+use Rattle.nm_types.specs.declared.calls.ReplyValue.TheVariants as told
+use Rattle.nm_types.specs.declared.results.LockKind.{LockKind}
 
 -- the lock owner for whom a LOCK is asked: one that it names, or that of the stateid
 unfoldable pub locks_for : Now → Locker → Option Party → Option Owner

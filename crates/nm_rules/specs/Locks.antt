@@ -1,10 +1,10 @@
 -- Byte-range locks of one file (RFC 7530, 9.2, 9.3, 16.10, 16.11 and 16.12). A list of the ranges that are held has one row for each
 -- range, by rising owner, and of one owner by rising first byte. An owner is the counter of its lock stateid.
 use Rattle.std.specs.Prelude.{◌≡◌, ◌≢◌, ◌==◌, ◌≤◌, ◌<◌, ◌&&◌, ◌||◌, ◌⊎◌, not, nat_lt, nat_le, ℕ, ◌+◌, ◌-◌, Bool, true, false, List, [], ◌∷◌, ◌++◌, flat_map, filter, find, Option, Some, None, option_map, if◌then◌else◌}
-use Rattle.std.specs.List.{list_any, list_all}
-use Rattle.nm_rules.specs.declared.results.LockKind.{LockKind}
-use Rattle.nm_rules.specs.declared.results.LockKind.TheVariants.{Read, Write}
-use Rattle.nm_rules.specs.declared.rows.Held.{Held}
+use Rattle.std.specs.List.{list_any}
+use Rattle.nm_types.specs.declared.results.LockKind.{LockKind}
+use Rattle.nm_types.specs.declared.results.LockKind.TheVariants.{Read, Write}
+use Rattle.nm_types.specs.declared.rows.Held.{Held}
 
 abbrev pub is_write : LockKind → Bool
 is_write Read = false

@@ -2,8 +2,8 @@
 use Rattle.std.specs.Prelude.{◌≡◌, ◌==◌, ◌&&◌, ◌||◌, ◌^◌, not, nat_le, nat_lt, ℕ, ◌+◌, Bool, true, false, List, [], length, filter, Option, Some, None, option_map, unwrap_or, is_none, bit_or, if◌then◌else◌}
 use Rattle.std.specs.List.{list_any}
 use Rattle.std.specs.Option.{option_or}
-use Rattle.nm_rules.specs.Parties.{Party}
-use Rattle.nm_rules.specs.Owners.{same_owner}
+use Rattle.nm_types.specs.Parties.{Party}
+use Rattle.nm_types.specs.Owners.{same_owner}
 use Rattle.nm_rules.specs.Attributes.{Asks, asked_size, asked_mode, is_invalid, is_unsupported, set_words}
 use Rattle.nm_rules.specs.Contents.{file_at, child_at}
 use Rattle.nm_rules.specs.LockRows.{are_idle_with, ranges_taken}
@@ -14,26 +14,26 @@ use Rattle.nm_rules.specs.Seen.{Seen}
 use Rattle.nm_rules.specs.Checks.{Checks, nothing_stops, refuse_if, lease_stop, missing_stop, is_dir, is_no_dir, arguments_fault}
 use Rattle.nm_rules.specs.Files.{current, change_of, changes_past_end, makes_past_end, sized_limit}
 use Rattle.nm_rules.specs.Stateids.{stateid_of, open_named, resolved, unresolved_at, owner_stop, owner_stop_at, live_stop, confirm_stop}
-use Rattle.nm_rules.specs.declared.args.Claim.{Claim}
-use Rattle.nm_rules.specs.declared.args.Claim.TheVariants.{Null, Previous, DelegateCur, DelegatePrev}
-use Rattle.nm_rules.specs.declared.args.CloseArgs.{CloseArgs}
-use Rattle.nm_rules.specs.declared.args.OpenArgs.{OpenArgs}
-use Rattle.nm_rules.specs.declared.args.OpenConfirmArgs.{OpenConfirmArgs}
-use Rattle.nm_rules.specs.declared.args.OpenDowngradeArgs.{OpenDowngradeArgs}
-use Rattle.nm_rules.specs.declared.args.OpenType.{OpenType}
-use Rattle.nm_rules.specs.declared.args.OpenType.TheVariants.{NoCreate, Unchecked, Guarded, Exclusive}
-use Rattle.nm_rules.specs.declared.calls.Deed.TheVariants as deed
-use Rattle.nm_rules.specs.declared.calls.Owner.{Owner}
-use Rattle.nm_rules.specs.declared.calls.StateId.{StateId}
-use Rattle.nm_rules.specs.declared.calls.StateRef.{StateRef}
-use Rattle.nm_rules.specs.declared.calls.Verdict.{Verdict}
-use Rattle.nm_rules.specs.declared.results.ChangeInfo.{ChangeInfo}
-use Rattle.nm_rules.specs.declared.results.OpenDelegation.TheVariants as delegation
-use Rattle.nm_rules.specs.declared.results.Opened.{Opened}
-use Rattle.nm_rules.specs.declared.rows.FileRow.{FileRow}
-use Rattle.nm_rules.specs.declared.rows.OpenRow.{OpenRow}
-use Rattle.nm_rules.specs.declared.status.OpStatus.{OpStatus}
-use Rattle.nm_rules.specs.declared.status.OpStatus.TheVariants.{NotDir, IsDir, Inval, AttrNotSupp, NoGrace, NotSupp, NoEnt, Exist, ShareDenied, LocksHeld, Resource, BadStateId, StaleClientId}
+use Rattle.nm_types.specs.declared.args.Claim.{Claim}
+use Rattle.nm_types.specs.declared.args.Claim.TheVariants.{Null, Previous, DelegateCur, DelegatePrev}
+use Rattle.nm_types.specs.declared.args.CloseArgs.{CloseArgs}
+use Rattle.nm_types.specs.declared.args.OpenArgs.{OpenArgs}
+use Rattle.nm_types.specs.declared.args.OpenConfirmArgs.{OpenConfirmArgs}
+use Rattle.nm_types.specs.declared.args.OpenDowngradeArgs.{OpenDowngradeArgs}
+use Rattle.nm_types.specs.declared.args.OpenType.{OpenType}
+use Rattle.nm_types.specs.declared.args.OpenType.TheVariants.{NoCreate, Unchecked, Guarded, Exclusive}
+use Rattle.nm_types.specs.declared.calls.Deed.TheVariants as deed
+use Rattle.nm_types.specs.declared.calls.Owner.{Owner}
+use Rattle.nm_types.specs.declared.calls.StateId.{StateId}
+use Rattle.nm_types.specs.declared.calls.StateRef.{StateRef}
+use Rattle.nm_types.specs.declared.calls.Verdict.{Verdict}
+use Rattle.nm_types.specs.declared.results.ChangeInfo.{ChangeInfo}
+use Rattle.nm_types.specs.declared.results.OpenDelegation.TheVariants as delegation
+use Rattle.nm_types.specs.declared.results.Opened.{Opened}
+use Rattle.nm_types.specs.declared.rows.FileRow.{FileRow}
+use Rattle.nm_types.specs.declared.rows.OpenRow.{OpenRow}
+use Rattle.nm_types.specs.declared.status.OpStatus.{OpStatus}
+use Rattle.nm_types.specs.declared.status.OpStatus.TheVariants.{NotDir, IsDir, Inval, AttrNotSupp, NoGrace, NotSupp, NoEnt, Exist, ShareDenied, LocksHeld, Resource, BadStateId, StaleClientId}
 
 -- some open of the file denies that access
 unfoldable pub is_denied : ℕ → ℕ → List OpenRow → Bool

@@ -1,23 +1,25 @@
 -- What is known of an owner, in the standard's words, read off the entries alone (RFC 7530, 9.1.7, 16.10, 16.18 and 16.37).
 use Rattle.std.specs.Prelude.{ℕ, Bool, true, false, List, [], ◌∷◌, filter, map, Option, Some, None, if◌then◌else◌}
 use Rattle.nm_rules.specs.LockAsks.{lock_owner}
-use Rattle.nm_rules.specs.Parties.{Party, same_party}
-use Rattle.nm_rules.specs.Owners.{same_owner}
-use Rattle.nm_rules.specs.Seqids.{advances, seqid_of, is_fresh, without_recalls}
+use Rattle.nm_types.specs.Parties.{Party, same_party}
+use Rattle.nm_types.specs.Owners.{same_owner}
+use Rattle.nm_rules.specs.Seqids.{is_fresh, without_recalls}
+use Rattle.nm_types.specs.Statuses.{advances}
+use Rattle.nm_types.specs.Calls.{seqid_of}
 use Rattle.nm_rules.specs.Past.{Past, Now, now, acts, judgement, seqid_owner, confirms, is_locked, is_released}
-use Rattle.nm_rules.specs.declared.args.Locker.{Locker}
-use Rattle.nm_rules.specs.declared.args.Locker.TheVariants.{New, Known}
-use Rattle.nm_rules.specs.declared.calls.Call.{Call}
-use Rattle.nm_rules.specs.declared.calls.Deed.{Deed}
-use Rattle.nm_rules.specs.declared.calls.Deed.TheVariants as deed
-use Rattle.nm_rules.specs.declared.calls.Event.{Event}
-use Rattle.nm_rules.specs.declared.calls.Event.TheVariants.{Asked, Ended}
-use Rattle.nm_rules.specs.declared.calls.Owner.{Owner}
-use Rattle.nm_rules.specs.declared.calls.Reply.{Reply}
-use Rattle.nm_rules.specs.declared.calls.ReplyValue.{ReplyValue}
-use Rattle.nm_rules.specs.declared.calls.ReplyValue.TheVariants as told
-use Rattle.nm_rules.specs.declared.owners.OwnerRow.{OwnerRow}
-use Rattle.nm_rules.specs.declared.rows.OpenRow.{OpenRow}
+use Rattle.nm_types.specs.declared.args.Locker.{Locker}
+use Rattle.nm_types.specs.declared.args.Locker.TheVariants.{New, Known}
+use Rattle.nm_types.specs.declared.calls.Call.{Call}
+use Rattle.nm_types.specs.declared.calls.Deed.{Deed}
+use Rattle.nm_types.specs.declared.calls.Deed.TheVariants as deed
+use Rattle.nm_types.specs.declared.calls.Event.{Event}
+use Rattle.nm_types.specs.declared.calls.Event.TheVariants.{Asked, Ended}
+use Rattle.nm_types.specs.declared.calls.Owner.{Owner}
+use Rattle.nm_types.specs.declared.calls.Reply.{Reply}
+use Rattle.nm_types.specs.declared.calls.ReplyValue.{ReplyValue}
+use Rattle.nm_types.specs.declared.calls.ReplyValue.TheVariants as told
+use Rattle.nm_types.specs.declared.owners.OwnerRow.{OwnerRow}
+use Rattle.nm_types.specs.declared.rows.OpenRow.{OpenRow}
 
 abbrev pub is_owner : Owner → Option Owner → Bool
 is_owner owner None = false

@@ -1,19 +1,19 @@
 -- What an owner holds, in the standard's words, read off the entries alone.
 use Rattle.std.specs.Prelude.{◌≡◌, ◌==◌, ◌&&◌, ℕ, Bool, false, List, [], ◌∷◌, Option, Some, None, option_map, if◌then◌else◌, bit_or}
-use Rattle.nm_rules.specs.Parties.{Party, same_party}
-use Rattle.nm_rules.specs.Owners.{same_owner}
+use Rattle.nm_types.specs.Parties.{Party, same_party}
+use Rattle.nm_types.specs.Owners.{same_owner}
 use Rattle.nm_rules.specs.Shares.{is_open_of, open_of, shares_conflict}
 use Rattle.nm_rules.specs.Past.{Past, Now, now, acts, opener}
-use Rattle.nm_rules.specs.declared.args.OpenArgs.{OpenArgs}
-use Rattle.nm_rules.specs.declared.calls.Deed.{Deed}
-use Rattle.nm_rules.specs.declared.calls.Deed.TheVariants.{Open, OpenDowngrade, Close}
-use Rattle.nm_rules.specs.declared.calls.Owner.{Owner}
-use Rattle.nm_rules.specs.declared.calls.Event.{Event}
-use Rattle.nm_rules.specs.declared.calls.Event.TheVariants.{Asked, Ended}
-use Rattle.nm_rules.specs.declared.calls.Reply.{Reply}
-use Rattle.nm_rules.specs.declared.calls.ReplyValue.{ReplyValue}
-use Rattle.nm_rules.specs.declared.calls.ReplyValue.TheVariants.{Open as OpenReply, OpenDowngrade as DowngradeReply, Close as CloseReply}
-use Rattle.nm_rules.specs.declared.rows.OpenRow.{OpenRow}
+use Rattle.nm_types.specs.declared.args.OpenArgs.{OpenArgs}
+use Rattle.nm_types.specs.declared.calls.Deed.{Deed}
+use Rattle.nm_types.specs.declared.calls.Deed.TheVariants.{Open, OpenDowngrade, Close}
+use Rattle.nm_types.specs.declared.calls.Owner.{Owner}
+use Rattle.nm_types.specs.declared.calls.Event.{Event}
+use Rattle.nm_types.specs.declared.calls.Event.TheVariants.{Asked, Ended}
+use Rattle.nm_types.specs.declared.calls.Reply.{Reply}
+use Rattle.nm_types.specs.declared.calls.ReplyValue.{ReplyValue}
+use Rattle.nm_types.specs.declared.calls.ReplyValue.TheVariants.{Open as OpenReply, OpenDowngrade as DowngradeReply, Close as CloseReply}
+use Rattle.nm_types.specs.declared.rows.OpenRow.{OpenRow}
 
 -- an access and a deny
 pub record Share : Type 0 where

@@ -1,29 +1,29 @@
 -- When a call is the one that came before (RFC 7530, 9.1.7): the callers' instances, the files and the arguments are equal.
 -- Only operations with a seqid are compared.
-use Rattle.std.specs.Prelude.{◌==◌, ◌&&◌, not, ℕ, Bool, true, false, List, Option, Some, None, if◌then◌else◌}
+use Rattle.std.specs.Prelude.{◌==◌, ◌&&◌, not, ℕ, Bool, true, false, List, Option, Some, None}
 use Rattle.std.specs.Str.{bytes_eq}
-use Rattle.nm_rules.specs.Parties.{Party, same_party}
-use Rattle.nm_rules.specs.declared.args.Claim.{Claim}
-use Rattle.nm_rules.specs.declared.args.Claim.TheVariants.{Null, Previous, DelegateCur, DelegatePrev}
-use Rattle.nm_rules.specs.declared.args.CloseArgs.{CloseArgs}
-use Rattle.nm_rules.specs.declared.args.Fattr.{Fattr}
-use Rattle.nm_rules.specs.declared.args.LockArgs.{LockArgs}
-use Rattle.nm_rules.specs.declared.args.Locker.{Locker}
-use Rattle.nm_rules.specs.declared.args.Locker.TheVariants.{New, Known}
-use Rattle.nm_rules.specs.declared.args.LockType.{LockType}
-use Rattle.nm_rules.specs.declared.args.LockType.TheVariants as asked
-use Rattle.nm_rules.specs.declared.args.OpenArgs.{OpenArgs}
-use Rattle.nm_rules.specs.declared.args.OpenConfirmArgs.{OpenConfirmArgs}
-use Rattle.nm_rules.specs.declared.args.OpenDowngradeArgs.{OpenDowngradeArgs}
-use Rattle.nm_rules.specs.declared.args.OpenType.{OpenType}
-use Rattle.nm_rules.specs.declared.args.OpenType.TheVariants.{NoCreate, Unchecked, Guarded, Exclusive}
-use Rattle.nm_rules.specs.declared.args.UnlockArgs.{UnlockArgs}
-use Rattle.nm_rules.specs.declared.calls.Call.{Call}
-use Rattle.nm_rules.specs.declared.calls.Deed.{Deed}
-use Rattle.nm_rules.specs.declared.calls.Deed.TheVariants as deed
-use Rattle.nm_rules.specs.declared.calls.StateId.{StateId}
-use Rattle.nm_rules.specs.declared.calls.StateRef.{StateRef}
-use Rattle.nm_rules.specs.declared.calls.StateRef.TheVariants.{Zeros, Ones, Named}
+use Rattle.nm_types.specs.Parties.{Party, same_party}
+use Rattle.nm_types.specs.declared.args.Claim.{Claim}
+use Rattle.nm_types.specs.declared.args.Claim.TheVariants.{Null, Previous, DelegateCur, DelegatePrev}
+use Rattle.nm_types.specs.declared.args.CloseArgs.{CloseArgs}
+use Rattle.nm_types.specs.declared.args.Fattr.{Fattr}
+use Rattle.nm_types.specs.declared.args.LockArgs.{LockArgs}
+use Rattle.nm_types.specs.declared.args.Locker.{Locker}
+use Rattle.nm_types.specs.declared.args.Locker.TheVariants.{New, Known}
+use Rattle.nm_types.specs.declared.args.LockType.{LockType}
+use Rattle.nm_types.specs.declared.args.LockType.TheVariants as asked
+use Rattle.nm_types.specs.declared.args.OpenArgs.{OpenArgs}
+use Rattle.nm_types.specs.declared.args.OpenConfirmArgs.{OpenConfirmArgs}
+use Rattle.nm_types.specs.declared.args.OpenDowngradeArgs.{OpenDowngradeArgs}
+use Rattle.nm_types.specs.declared.args.OpenType.{OpenType}
+use Rattle.nm_types.specs.declared.args.OpenType.TheVariants.{NoCreate, Unchecked, Guarded, Exclusive}
+use Rattle.nm_types.specs.declared.args.UnlockArgs.{UnlockArgs}
+use Rattle.nm_types.specs.declared.calls.Call.{Call}
+use Rattle.nm_types.specs.declared.calls.Deed.{Deed}
+use Rattle.nm_types.specs.declared.calls.Deed.TheVariants as deed
+use Rattle.nm_types.specs.declared.calls.StateId.{StateId}
+use Rattle.nm_types.specs.declared.calls.StateRef.{StateRef}
+use Rattle.nm_types.specs.declared.calls.StateRef.TheVariants.{Zeros, Ones, Named}
 
 -- ---- stateids
 

@@ -5,12 +5,12 @@ use Rattle.nm_rules.specs.LockRows.{locks_after, ranges_after}
 use Rattle.nm_rules.specs.Seqids.{owner_at, owners_after, closed_after}
 use Rattle.nm_rules.specs.Shares.{open_at, opens_after}
 use Rattle.nm_rules.specs.Past.{Past, Now, Words, words}
-use Rattle.nm_rules.specs.declared.calls.Event.{Event}
-use Rattle.nm_rules.specs.declared.calls.Reply.{Reply}
-use Rattle.nm_rules.specs.declared.owners.OwnerRow.{OwnerRow}
-use Rattle.nm_rules.specs.declared.rows.FileLocks.{FileLocks}
-use Rattle.nm_rules.specs.declared.rows.LockRow.{LockRow}
-use Rattle.nm_rules.specs.declared.rows.OpenRow.{OpenRow}
+use Rattle.nm_types.specs.declared.calls.Event.{Event}
+use Rattle.nm_types.specs.declared.calls.Reply.{Reply}
+use Rattle.nm_types.specs.declared.owners.OwnerRow.{OwnerRow}
+use Rattle.nm_types.specs.declared.rows.FileLocks.{FileLocks}
+use Rattle.nm_types.specs.declared.rows.LockRow.{LockRow}
+use Rattle.nm_types.specs.declared.rows.OpenRow.{OpenRow}
 
 -- A file system: its number and whether it grants delegations, which never change, and its tables.
 pub record Seen : Type 0 where

@@ -1,49 +1,17 @@
 -- The seqids of owners (RFC 7530, 9.1.7): what is kept of an owner, what a seqid says of a call, and how the table of owners
 -- changes.
 use Rattle.std.specs.Prelude.{◌==◌, ◌&&◌, not, ℕ, Bool, true, false, List, [], ◌∷◌, ◌++◌, Option, Some, None, find, filter, if◌then◌else◌}
-use Rattle.nm_rules.specs.Parties.{Party, same_party}
-use Rattle.nm_rules.specs.Owners.{same_owner}
+use Rattle.nm_types.specs.Parties.{Party, same_party}
+use Rattle.nm_types.specs.Owners.{same_owner}
 use Rattle.nm_rules.specs.Repeats.{same_call}
 use Rattle.nm_rules.specs.Shares.{next_seqid}
-use Rattle.nm_rules.specs.declared.args.Locker.{Locker}
-use Rattle.nm_rules.specs.declared.args.Locker.TheVariants.{New, Known}
-use Rattle.nm_rules.specs.declared.calls.Deed.{Deed}
-use Rattle.nm_rules.specs.declared.calls.Deed.TheVariants as deed
-use Rattle.nm_rules.specs.declared.calls.Owner.{Owner}
-use Rattle.nm_rules.specs.declared.calls.Reply.{Reply}
-use Rattle.nm_rules.specs.declared.owners.Judgement.{Judgement}
-use Rattle.nm_rules.specs.declared.owners.Judgement.TheVariants.{Unknown, Fresh, Again, Bad}
-use Rattle.nm_rules.specs.declared.owners.OwnerRow.{OwnerRow}
-use Rattle.nm_rules.specs.declared.rows.OpenRow.{OpenRow}
-use Rattle.nm_rules.specs.declared.status.OpStatus.{OpStatus}
-use Rattle.nm_rules.specs.declared.status.OpStatus.TheVariants.{StaleClientId, StaleStateId, BadStateId, BadSeqid, BadXdr, Resource, NoFileHandle, Moved}
-
--- Whether an operation that takes a seqid moves its owner on to the next one, by its status.
-unfoldable pub advances : OpStatus → Bool
-advances StaleClientId = false
-advances StaleStateId = false
-advances BadStateId = false
-advances BadSeqid = false
-advances BadXdr = false
-advances Resource = false
-advances NoFileHandle = false
-advances Moved = false
-advances _ = true
-
--- A new lock owner's lock is judged by the seqid of its open owner.
-abbrev pub locker_seqid : Locker → ℕ
-locker_seqid (New open_seqid stateid lock_seqid owner) = open_seqid
-locker_seqid (Known stateid lock_seqid) = lock_seqid
-
--- the seqid that an operation takes; the others take none
-unfoldable pub seqid_of : Deed → ℕ
-seqid_of (deed.Close args) = args.seqid
-seqid_of (deed.Lock args) = locker_seqid args.locker
-seqid_of (deed.Open args) = args.seqid
-seqid_of (deed.OpenConfirm args) = args.seqid
-seqid_of (deed.OpenDowngrade args) = args.seqid
-seqid_of (deed.Unlock args) = args.seqid
-seqid_of _ = 0
+use Rattle.nm_types.specs.declared.calls.Deed.{Deed}
+use Rattle.nm_types.specs.declared.calls.Owner.{Owner}
+use Rattle.nm_types.specs.declared.calls.Reply.{Reply}
+use Rattle.nm_types.specs.declared.owners.Judgement.{Judgement}
+use Rattle.nm_types.specs.declared.owners.Judgement.TheVariants.{Unknown, Fresh, Again, Bad}
+use Rattle.nm_types.specs.declared.owners.OwnerRow.{OwnerRow}
+use Rattle.nm_types.specs.declared.rows.OpenRow.{OpenRow}
 
 -- What an operation's seqid says of it, by what is kept of its owner: it has to be the next one, or the last one with the same
 -- call. The first operation of an owner that isn't known may have any.

@@ -1,10 +1,10 @@
 -- Opens, and when two of them conflict (RFC 7530, 9.9 and 16.16).
 use Rattle.std.specs.Prelude.{◌==◌, ◌&&◌, ◌||◌, not, ℕ, ◌+◌, Bool, List, [], ◌∷◌, Option, Some, None, if◌then◌else◌, find, filter, bit_and, bit_or}
 use Rattle.std.specs.List.{list_any}
-use Rattle.nm_rules.specs.Parties.{Party, same_party}
-use Rattle.nm_rules.specs.Owners.{same_owner}
-use Rattle.nm_rules.specs.declared.calls.Owner.{Owner}
-use Rattle.nm_rules.specs.declared.rows.OpenRow.{OpenRow}
+use Rattle.nm_types.specs.Parties.{Party, same_party}
+use Rattle.nm_types.specs.Owners.{same_owner}
+use Rattle.nm_types.specs.declared.calls.Owner.{Owner}
+use Rattle.nm_types.specs.declared.rows.OpenRow.{OpenRow}
 
 -- After the greatest seqid of a stateid comes 1 (RFC 7530, 9.1.4.2): 0 is never one.
 abbrev pub next_seqid : ℕ → ℕ

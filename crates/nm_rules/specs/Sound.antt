@@ -3,15 +3,15 @@ use Rattle.std.specs.Prelude.{◌≡◌, ◌≤◌, length, ◌==◌, ◌&&◌, 
 use Rattle.std.specs.List.{list_all}
 use Rattle.nm_rules.specs.Checks.{is_dir}
 use Rattle.nm_rules.specs.Contents.{TreeNow, is_named, file_at, total_size, files_limit, size_limit, total_limit}
-use Rattle.nm_rules.specs.Owners.{same_kind, same_owner}
+use Rattle.nm_types.specs.Owners.{same_kind, same_owner}
 use Rattle.nm_rules.specs.Seqids.{owner_at}
 use Rattle.nm_rules.specs.Shares.{shares_conflict}
 use Rattle.nm_rules.specs.Seen.{Seen}
-use Rattle.nm_rules.specs.declared.calls.OwnerKind.TheVariants.{Opens}
-use Rattle.nm_rules.specs.declared.owners.OwnerRow.{OwnerRow}
-use Rattle.nm_rules.specs.declared.rows.FileRow.{FileRow}
-use Rattle.nm_rules.specs.declared.rows.LockRow.{LockRow}
-use Rattle.nm_rules.specs.declared.rows.OpenRow.{OpenRow}
+use Rattle.nm_types.specs.declared.calls.OwnerKind.TheVariants.{Opens}
+use Rattle.nm_types.specs.declared.owners.OwnerRow.{OwnerRow}
+use Rattle.nm_types.specs.declared.rows.FileRow.{FileRow}
+use Rattle.nm_types.specs.declared.rows.LockRow.{LockRow}
+use Rattle.nm_types.specs.declared.rows.OpenRow.{OpenRow}
 
 -- the counters rise, each above this one, and none is past the last
 abbrev pub rises : ℕ → ℕ → List OpenRow → Bool

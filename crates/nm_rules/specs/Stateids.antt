@@ -1,25 +1,25 @@
 -- Stateids of opens and of byte-range locks (RFC 7530, 9.1.4): what each stands for, and when it is refused.
 use Rattle.std.specs.Prelude.{◌==◌, ◌&&◌, not, nat_le, ℕ, ◌+◌, ◌-◌, ◌%◌, Bool, false, Option, Some, None, if◌then◌else◌}
 use Rattle.std.specs.Option.{option_or}
-use Rattle.nm_rules.specs.Parties.{Party, same_party}
+use Rattle.nm_types.specs.Parties.{Party, same_party}
 use Rattle.nm_rules.specs.Seqids.{is_confirmed, judged, owner_at}
 use Rattle.nm_rules.specs.LockRows.{lock_at}
 use Rattle.nm_rules.specs.Shares.{meets, open_at}
 use Rattle.nm_rules.specs.Seen.{Seen}
 use Rattle.nm_rules.specs.Checks.{Stop, refuse_if}
 use Rattle.nm_rules.specs.Checks.Stop.{Refuse, Repeat}
-use Rattle.nm_rules.specs.declared.calls.Deed.{Deed}
-use Rattle.nm_rules.specs.declared.calls.Reply.{Reply}
-use Rattle.nm_rules.specs.declared.calls.StateId.{StateId}
-use Rattle.nm_rules.specs.declared.calls.StateRef.{StateRef}
-use Rattle.nm_rules.specs.declared.calls.StateRef.TheVariants.{Zeros, Ones, Named}
-use Rattle.nm_rules.specs.declared.owners.Judgement.{Judgement}
-use Rattle.nm_rules.specs.declared.owners.Judgement.TheVariants.{Unknown, Fresh, Again, Bad}
-use Rattle.nm_rules.specs.declared.owners.OwnerRow.{OwnerRow}
-use Rattle.nm_rules.specs.declared.rows.LockRow.{LockRow}
-use Rattle.nm_rules.specs.declared.rows.OpenRow.{OpenRow}
-use Rattle.nm_rules.specs.declared.status.OpStatus.{OpStatus}
-use Rattle.nm_rules.specs.declared.status.OpStatus.TheVariants.{BadSeqid, BadStateId, OldStateId, OpenMode, Resource}
+use Rattle.nm_types.specs.declared.calls.Deed.{Deed}
+use Rattle.nm_types.specs.declared.calls.Reply.{Reply}
+use Rattle.nm_types.specs.declared.calls.StateId.{StateId}
+use Rattle.nm_types.specs.declared.calls.StateRef.{StateRef}
+use Rattle.nm_types.specs.declared.calls.StateRef.TheVariants.{Zeros, Ones, Named}
+use Rattle.nm_types.specs.declared.owners.Judgement.{Judgement}
+use Rattle.nm_types.specs.declared.owners.Judgement.TheVariants.{Unknown, Fresh, Again, Bad}
+use Rattle.nm_types.specs.declared.owners.OwnerRow.{OwnerRow}
+use Rattle.nm_types.specs.declared.rows.LockRow.{LockRow}
+use Rattle.nm_types.specs.declared.rows.OpenRow.{OpenRow}
+use Rattle.nm_types.specs.declared.status.OpStatus.{OpStatus}
+use Rattle.nm_types.specs.declared.status.OpStatus.TheVariants.{BadSeqid, BadStateId, OldStateId, OpenMode, Resource}
 
 -- the stateid of an open
 abbrev pub stateid_of : ℕ → OpenRow → StateId

@@ -3,7 +3,7 @@
 ghost use Rattle.std.specs.Prelude.{◌≡◌, ◌≢◌, ◌≤◌, ◌<◌, ◌+◌, ℕ, Bool, true, Some, length, slice_get};
 ghost use Rattle.nm_rules.specs.Contents.{file_at};
 ghost use Rattle.nm_rules.specs.FileReadings.{IsRead};
-ghost use Rattle.nm_rules.specs.declared.rows.FileRow.{FileRow as AnyRow};
+ghost use Rattle.nm_types.specs.declared.rows.FileRow.{FileRow as AnyRow};
 ghost use Rattle.nm_rules.specs.Opens.{rows_limit, rows_taken};
 ghost use Rattle.nm_rules.specs.OwnerReadings.{closed_of, counter_list, kept_close, owner_now, seqids_of};
 ghost use Rattle.nm_rules.specs.Past.{Past, now, judgement};
@@ -11,17 +11,17 @@ ghost use Rattle.nm_rules.specs.Seqids.{owner_at};
 ghost use Rattle.nm_rules.specs.Seen.{Seen, seen, look, after};
 ghost use Rattle.nm_rules.specs.Answer.{answer, IsLegal};
 ghost use Rattle.nm_rules.specs.Sound.{FilesFit, IsSound, OwnersAreKnown, all_stand_in};
-ghost use Rattle.nm_rules.specs.Parties.{Party};
+ghost use Rattle.nm_types.specs.Parties.{Party};
 ghost use Rattle.nm_rules.specs.Holders.{holders, has_row, is_among, parties_rise};
 ghost use Rattle.nm_rules.specs.Readings.{share_of, share_in, AreCompatible};
 ghost use Rattle.nm_rules.specs.StateidReadings.{makes, stateids_made, TellsCounter};
-ghost use Rattle.nm_rules.specs.declared.calls.Owner.{Owner as AnyOwner};
-ghost use Rattle.nm_rules.specs.declared.calls.Call.{Call as AnyCall};
-ghost use Rattle.nm_rules.specs.declared.calls.Event.{Event as AnyEvent};
-ghost use Rattle.nm_rules.specs.declared.calls.Event.TheVariants.{Asked};
-ghost use Rattle.nm_rules.specs.declared.calls.Verdict.{Verdict as AnyVerdict};
-ghost use Rattle.nm_rules.specs.declared.owners.Judgement.TheVariants.{Again};
-ghost use Rattle.nm_rules.specs.declared.calls.Reply.{Reply as AnyReply};
+ghost use Rattle.nm_types.specs.declared.calls.Owner.{Owner as AnyOwner};
+ghost use Rattle.nm_types.specs.declared.calls.Call.{Call as AnyCall};
+ghost use Rattle.nm_types.specs.declared.calls.Event.{Event as AnyEvent};
+ghost use Rattle.nm_types.specs.declared.calls.Event.TheVariants.{Asked};
+ghost use Rattle.nm_types.specs.declared.calls.Verdict.{Verdict as AnyVerdict};
+ghost use Rattle.nm_types.specs.declared.owners.Judgement.TheVariants.{Again};
+ghost use Rattle.nm_types.specs.declared.calls.Reply.{Reply as AnyReply};
 
 /// No two owners hold conflicting shares of a file (RFC 7530, 9.9): what one does is never what the other denies.
 pub fn shares_never_conflict()

@@ -1,149 +1,24 @@
-//! Names, numbers, calls and replies of NFSv4.0 (RFC 7530), and the server that never moves.
+//! The server that never moves (RFC 7530): the definitions that every contract above cites, and the laws about them.
 #![tactic(auto)]
 
-mod action;
-mod args;
-mod calls;
-mod cause;
-mod copies;
-mod instance;
-mod items;
 mod laws;
 mod lock_laws;
 mod lock_rows;
-mod memory;
-mod numbers;
-mod owners;
 mod repeats;
-mod replies;
-mod results;
-mod rows;
-mod status;
-mod table;
-mod wire;
 
-pub use action::Action;
-pub use action::CloseAction;
-pub use action::LockAction;
-pub use action::NameAction;
-pub use action::OpenAction;
-pub use action::ReadAction;
-pub use action::ReleaseAction;
-pub use action::SizeAction;
-pub use action::UnlockAction;
-pub use action::Verb;
-pub use action::WriteAction;
-pub use args::AccessArgs;
-pub use args::Claim;
-pub use args::CloseArgs;
-pub use args::CommitArgs;
-pub use args::CreateArgs;
-pub use args::CreateType;
-pub use args::DelegReturnArgs;
-pub use args::Device;
-pub use args::Fattr;
-pub use args::GetAttrArgs;
-pub use args::LockArgs;
-pub use args::LockTestArgs;
-pub use args::LockType;
-pub use args::Locker;
-pub use args::LookupArgs;
-pub use args::OpenArgs;
-pub use args::OpenConfirmArgs;
-pub use args::OpenDowngradeArgs;
-pub use args::OpenType;
-pub use args::ReadArgs;
-pub use args::ReadDirArgs;
-pub use args::ReleaseLockOwnerArgs;
-pub use args::RemoveArgs;
-pub use args::SetAttrArgs;
-pub use args::Stable;
-pub use args::UnlockArgs;
-pub use args::Words;
-pub use args::WriteArgs;
-pub use calls::Call;
-pub use calls::Deed;
-pub use calls::Entry;
-pub use calls::Event;
-pub use calls::Owner;
-pub use calls::OwnerKind;
-pub use calls::Recall;
-pub use calls::Recalls;
-pub use calls::Reply;
-pub use calls::ReplyValue;
-pub use calls::StateId;
-pub use calls::StateRef;
-pub use calls::Verdict;
-pub use cause::Cause;
-pub use instance::Instance;
-pub use instance::NameFault;
-pub use instance::Principal;
-pub use items::Bytes;
-pub use items::Items;
-pub use laws::closed_opens_are_kept_closes;
-pub use laws::files_are_in_directories;
-pub use laws::files_read_as_written;
-pub use laws::files_stay_within_their_limits;
-pub use laws::holders_have_rows;
-pub use laws::legal_tables_are_sound;
-pub use laws::owners_are_kept_as_noted;
-pub use laws::owners_of_opens_are_known;
-pub use laws::repeats_change_nothing;
-pub use laws::rows_grow_by_two;
-pub use laws::rows_stay_within_the_limit;
-pub use laws::seqids_are_apart;
-pub use laws::shares_never_conflict;
-pub use laws::stateids_are_counted;
-pub use laws::tables_keep_shares;
-pub use laws::tables_show_what_stands;
-pub use lock_laws::barriers_are_least;
-pub use lock_laws::joined_ranges_are_told_by_bytes;
-pub use lock_laws::ranges_hold_bytes;
-pub use lock_laws::ranges_never_conflict;
-pub use lock_laws::ranges_stay_joined;
-pub use lock_rows::held_locks_never_conflict;
-pub use lock_rows::legal_locks_stand;
-pub use lock_rows::locks_are_held_as_taken;
-pub use lock_rows::locks_are_held_at_bytes;
-pub use lock_rows::locks_never_conflict;
-pub use lock_rows::locks_stand;
-pub use memory::Memory;
-pub use memory::Refusal;
-pub use numbers::Epoch;
-pub use numbers::Era;
-pub use numbers::FsNum;
-pub use numbers::MoveNum;
-pub use numbers::ServerNum;
-pub use owners::Judgement;
-pub use owners::OwnerRow;
-pub use results::AccessOk;
-pub use results::ChangeInfo;
-pub use results::CreateOk;
-pub use results::Created;
-pub use results::Denied;
-pub use results::DirEntry;
-pub use results::FileAttrs;
-pub use results::GetAttrOk;
-pub use results::LockKind;
-pub use results::LockOutcome;
-pub use results::LockRange;
-pub use results::OpenDelegation;
-pub use results::OpenOk;
-pub use results::Opened;
-pub use results::ReadDirOk;
-pub use results::ReadOk;
-pub use results::WriteOk;
-pub use rows::FileKind;
-pub use rows::FileLocks;
-pub use rows::FileRow;
-pub use rows::Held;
-pub use rows::LockRow;
-pub use rows::OpenRow;
-pub use status::OpStatus;
-pub use table::HeldKind;
-pub use table::HeldRow;
-pub use table::HeldTable;
-pub use table::RangeList;
-pub use wire::Handle;
-pub use wire::handles_are_read_as_written;
-pub use wire::stateids_are_read_as_written;
+pub use laws::{
+    closed_opens_are_kept_closes, files_are_in_directories, files_read_as_written,
+    files_stay_within_their_limits, holders_have_rows, legal_tables_are_sound,
+    owners_are_kept_as_noted, owners_of_opens_are_known, repeats_change_nothing, rows_grow_by_two,
+    rows_stay_within_the_limit, seqids_are_apart, shares_never_conflict, stateids_are_counted,
+    tables_keep_shares, tables_show_what_stands,
+};
+pub use lock_laws::{
+    barriers_are_least, joined_ranges_are_told_by_bytes, ranges_hold_bytes, ranges_never_conflict,
+    ranges_stay_joined,
+};
+pub use lock_rows::{
+    held_locks_never_conflict, legal_locks_stand, locks_are_held_as_taken, locks_are_held_at_bytes,
+    locks_never_conflict, locks_stand,
+};
+pub use repeats::{is_repeat, judge};

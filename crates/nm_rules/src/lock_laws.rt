@@ -2,8 +2,8 @@
 //! and the contracts of the crates above bind the code to the same definitions.
 ghost use Rattle.std.specs.Prelude.{◌≡◌, ◌≢◌, ◌≤◌, ◌==◌, ◌&&◌, ◌↔◌, ℕ, true, false, Option, Some, None, List, if◌then◌else◌};
 ghost use Rattle.nm_rules.specs.Locks.{IsBarrier, IsFree, IsJoined, barrier, cleared, conflicts_with, dropped, is_inside, kind_at, set_to};
-ghost use Rattle.nm_rules.specs.declared.results.LockKind.{LockKind as AnyKind};
-ghost use Rattle.nm_rules.specs.declared.rows.Held.{Held as AnyHeld};
+ghost use Rattle.nm_types.specs.declared.results.LockKind.{LockKind as AnyKind};
+ghost use Rattle.nm_types.specs.declared.rows.Held.{Held as AnyHeld};
 
 /// What each owner holds at each byte after a change. A lock gives its owner its kind at each byte of its range, an unlock takes the
 /// owner's locks off the range, and the end of an owner takes them off all bytes. Every other byte and every other owner is as before.

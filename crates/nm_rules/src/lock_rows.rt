@@ -5,9 +5,9 @@ ghost use Rattle.nm_rules.specs.LockReadings.{byte_lock};
 ghost use Rattle.nm_rules.specs.Past.{Past};
 ghost use Rattle.nm_rules.specs.Seen.{seen};
 ghost use Rattle.nm_rules.specs.LockRows.{LockWord, LocksStand, MayFollow, go_together, last_after, lock_in, lock_left, locks_after, ranges_after};
-ghost use Rattle.nm_rules.specs.declared.calls.Owner.{Owner as AnyOwner};
-ghost use Rattle.nm_rules.specs.declared.rows.FileLocks.{FileLocks as AnyFileLocks};
-ghost use Rattle.nm_rules.specs.declared.rows.LockRow.{LockRow as AnyLockRow};
+ghost use Rattle.nm_types.specs.declared.calls.Owner.{Owner as AnyOwner};
+ghost use Rattle.nm_types.specs.declared.rows.FileLocks.{FileLocks as AnyFileLocks};
+ghost use Rattle.nm_types.specs.declared.rows.LockRow.{LockRow as AnyLockRow};
 
 /// Whatever takes, gives up or ends locks leaves tables that stand: counters rise, an owner has one stateid on a file, ranges are
 /// joined, only a stateid on the file holds bytes of it, and no two stateids hold a byte where one of them writes.

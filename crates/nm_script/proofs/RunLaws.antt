@@ -9,18 +9,18 @@ use Rattle.std.proofs.lemmas.List.{get_or-map, length-map}
 use Rattle.std.proofs.lemmas.List.Sums.{position_or_len_is}
 use Rattle.std.proofs.lemmas.List.Quantifiers.{position-Some}
 use Rattle.hex.specs.Hex.{encode_lower}
-use Rattle.nm_rules.specs.declared.action.Action.{Action}
-use Rattle.nm_rules.specs.declared.action.Action.TheVariants as actions
-use Rattle.nm_rules.specs.declared.action.OpenAction.{OpenAction}
-use Rattle.nm_rules.specs.declared.action.CloseAction.{CloseAction}
-use Rattle.nm_rules.specs.declared.action.LockAction.{LockAction}
-use Rattle.nm_rules.specs.declared.action.UnlockAction.{UnlockAction}
-use Rattle.nm_rules.specs.declared.action.ReleaseAction.{ReleaseAction}
-use Rattle.nm_rules.specs.declared.action.ReadAction.{ReadAction}
-use Rattle.nm_rules.specs.declared.action.WriteAction.{WriteAction}
-use Rattle.nm_rules.specs.declared.action.SizeAction.{SizeAction}
-use Rattle.nm_rules.specs.declared.action.NameAction.{NameAction}
-use Rattle.nm_rules.specs.declared.results.LockKind.{LockKind}
+use Rattle.nm_types.specs.declared.action.Action.{Action}
+use Rattle.nm_types.specs.declared.action.Action.TheVariants as actions
+use Rattle.nm_types.specs.declared.action.OpenAction.{OpenAction}
+use Rattle.nm_types.specs.declared.action.CloseAction.{CloseAction}
+use Rattle.nm_types.specs.declared.action.LockAction.{LockAction}
+use Rattle.nm_types.specs.declared.action.UnlockAction.{UnlockAction}
+use Rattle.nm_types.specs.declared.action.ReleaseAction.{ReleaseAction}
+use Rattle.nm_types.specs.declared.action.ReadAction.{ReadAction}
+use Rattle.nm_types.specs.declared.action.WriteAction.{WriteAction}
+use Rattle.nm_types.specs.declared.action.SizeAction.{SizeAction}
+use Rattle.nm_types.specs.declared.action.NameAction.{NameAction}
+use Rattle.nm_types.specs.declared.results.LockKind.{LockKind}
 use Rattle.nm_script.specs.declared.script.Head.{Head}
 use Rattle.nm_script.specs.declared.script.Line.{Line}
 use Rattle.nm_script.specs.declared.script.Line.TheVariants.{Do, Finish, Move, Freeze, Abandon, Commit, Settle, Shift, Show}

@@ -7,8 +7,8 @@ use Rattle.std.specs.Ordering.{ordering_then}
 use Rattle.std.proofs.lemmas.Bool.Decides.{nat_tests}
 use Rattle.std.proofs.lemmas.Cmp.{nat_cmp_total}
 use Rattle.std.proofs.lemmas.List.Sorted.{ranks_by}
-use Rattle.nm_rules.specs.declared.results.LockRange.{LockRange}
-use Rattle.nm_rules.specs.declared.table.HeldRow.{HeldRow}
+use Rattle.nm_types.specs.declared.results.LockRange.{LockRange}
+use Rattle.nm_types.specs.declared.table.HeldRow.{HeldRow}
 use Rattle.nm_script.specs.TableText.{comes_before, in_order, ranges_held, ranges_shown}
 use Rattle.nm_script.proofs.InOrder.{sorted_is_in_order, in_order_seen}
 

@@ -12,8 +12,8 @@ use Rattle.std.proofs.lemmas.Bool.Decides.{eqb_tells, nat_tests}
 use Rattle.std.proofs.lemmas.Slice.Eq.{bytes_eq-Decides}
 use Rattle.std.proofs.lemmas.Str.Parse.{IsNumeralModel, numerals_by_fold}
 use Rattle.std.proofs.lemmas.Fmt.{digits_decimal, digits_value-decimal, decimal-digits_value, decimal_nonempty, decimal_digit, first_decimal}
-use Rattle.nm_rules.specs.declared.results.LockKind.{LockKind}
-use Rattle.nm_rules.specs.declared.results.LockKind.TheVariants as kinds
+use Rattle.nm_types.specs.declared.results.LockKind.{LockKind}
+use Rattle.nm_types.specs.declared.results.LockKind.TheVariants as kinds
 use Rattle.nm_script.specs.declared.script.Why.TheVariants.{Word, Number}
 use Rattle.nm_script.specs.Words.{words_of, is_name_byte, is_name, is_file_name, with_digit, digits_at, number_or_fault, number_at, access_at, deny_at, lock_kind_at}
 use Rattle.nm_script.specs.Grammar.{IsName, IsFileName, access_word, deny_word, kind_word}

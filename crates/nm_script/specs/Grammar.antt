@@ -5,19 +5,19 @@ use Rattle.std.specs.List.{list_any, list_all, join_with_byte}
 use Rattle.std.specs.Str.{bytes_eq}
 use Rattle.std.specs.Fmt.{decimal}
 use Rattle.hex.specs.Hex.{encode_lower}
-use Rattle.nm_rules.specs.declared.action.Action.{Action}
-use Rattle.nm_rules.specs.declared.action.Action.TheVariants as actions
-use Rattle.nm_rules.specs.declared.action.OpenAction.{OpenAction}
-use Rattle.nm_rules.specs.declared.action.CloseAction.{CloseAction}
-use Rattle.nm_rules.specs.declared.action.LockAction.{LockAction}
-use Rattle.nm_rules.specs.declared.action.UnlockAction.{UnlockAction}
-use Rattle.nm_rules.specs.declared.action.ReleaseAction.{ReleaseAction}
-use Rattle.nm_rules.specs.declared.action.ReadAction.{ReadAction}
-use Rattle.nm_rules.specs.declared.action.WriteAction.{WriteAction}
-use Rattle.nm_rules.specs.declared.action.SizeAction.{SizeAction}
-use Rattle.nm_rules.specs.declared.action.NameAction.{NameAction}
-use Rattle.nm_rules.specs.declared.results.LockKind.{LockKind}
-use Rattle.nm_rules.specs.declared.results.LockKind.TheVariants as kinds
+use Rattle.nm_types.specs.declared.action.Action.{Action}
+use Rattle.nm_types.specs.declared.action.Action.TheVariants as actions
+use Rattle.nm_types.specs.declared.action.OpenAction.{OpenAction}
+use Rattle.nm_types.specs.declared.action.CloseAction.{CloseAction}
+use Rattle.nm_types.specs.declared.action.LockAction.{LockAction}
+use Rattle.nm_types.specs.declared.action.UnlockAction.{UnlockAction}
+use Rattle.nm_types.specs.declared.action.ReleaseAction.{ReleaseAction}
+use Rattle.nm_types.specs.declared.action.ReadAction.{ReadAction}
+use Rattle.nm_types.specs.declared.action.WriteAction.{WriteAction}
+use Rattle.nm_types.specs.declared.action.SizeAction.{SizeAction}
+use Rattle.nm_types.specs.declared.action.NameAction.{NameAction}
+use Rattle.nm_types.specs.declared.results.LockKind.{LockKind}
+use Rattle.nm_types.specs.declared.results.LockKind.TheVariants as kinds
 use Rattle.nm_script.specs.declared.script.ServerRow.{ServerRow}
 use Rattle.nm_script.specs.declared.script.FsRow.{FsRow}
 use Rattle.nm_script.specs.declared.script.ClientRow.{ClientRow}

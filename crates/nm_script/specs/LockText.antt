@@ -1,8 +1,8 @@
 -- The printed text of byte-range locks.
 use Rattle.std.specs.Prelude.{◌==◌, ℕ, ◌+◌, ◌-◌, List, ◌++◌, codes, decimal, if◌then◌else◌}
-use Rattle.nm_rules.specs.LockAsks.{greatest}
-use Rattle.nm_rules.specs.declared.results.Denied.{Denied}
-use Rattle.nm_rules.specs.declared.results.LockRange.{LockRange}
+use Rattle.nm_types.specs.Calls.{greatest}
+use Rattle.nm_types.specs.declared.results.Denied.{Denied}
+use Rattle.nm_types.specs.declared.results.LockRange.{LockRange}
 use Rattle.nm_script.specs.Grammar.{kind_word}
 
 -- how many bytes a range has: one that has the last byte of all reaches to the end of every file, and has the greatest length

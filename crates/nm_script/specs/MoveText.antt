@@ -1,7 +1,7 @@
 -- The printed text of who has a file system, and of what came of its moves.
 use Rattle.std.specs.Prelude.{ℕ, List, ◌++◌, codes, decimal}
-use Rattle.nm_rules.specs.declared.cause.Cause.{Cause}
-use Rattle.nm_rules.specs.declared.cause.Cause.TheVariants.{BadImage, Old, Live, Differs, Full, Absent}
+use Rattle.nm_types.specs.declared.cause.Cause.{Cause}
+use Rattle.nm_types.specs.declared.cause.Cause.TheVariants.{BadImage, Old, Live, Differs, Full, Absent}
 use Rattle.nm_script.specs.declared.report.MoveNames.{MoveNames}
 use Rattle.nm_script.specs.declared.report.PhaseNow.{PhaseNow}
 use Rattle.nm_script.specs.declared.report.PhaseNow.TheVariants.{At, Closing, Frozen, Passing}

@@ -1,11 +1,11 @@
 -- The printed text of what clients were told.
 use Rattle.std.specs.Prelude.{ℕ, Bool, true, false, List, [], ◌∷◌, ◌++◌, codes, decimal, flat_map}
 use Rattle.hex.specs.Hex.{encode_lower}
-use Rattle.nm_rules.specs.declared.action.Verb.{Verb}
-use Rattle.nm_rules.specs.declared.action.Verb.TheVariants as verbs
-use Rattle.nm_rules.specs.declared.results.ReadOk.{ReadOk}
-use Rattle.nm_rules.specs.declared.status.OpStatus.{OpStatus}
-use Rattle.nm_rules.specs.declared.status.OpStatus.TheVariants.{Nfs4Ok, NoEnt, Exist, NotDir, IsDir, Inval, FBig, NoSpc, NameTooLong, NotEmpty, Stale, BadHandle, NotSupp, TooSmall, ServerFault, BadType, Delay, Denied, Expired, Locked, Grace, ShareDenied, ClidInUse, Resource, Moved, NoFileHandle, MinorVersMismatch, StaleClientId, StaleStateId, OldStateId, BadStateId, BadSeqid, NotSame, RestoreFh, LeaseMoved, AttrNotSupp, NoGrace, BadXdr, LocksHeld, OpenMode, BadName, OpIllegal, FileOpen}
+use Rattle.nm_types.specs.declared.action.Verb.{Verb}
+use Rattle.nm_types.specs.declared.action.Verb.TheVariants as verbs
+use Rattle.nm_types.specs.declared.results.ReadOk.{ReadOk}
+use Rattle.nm_types.specs.declared.status.OpStatus.{OpStatus}
+use Rattle.nm_types.specs.declared.status.OpStatus.TheVariants.{Nfs4Ok, NoEnt, Exist, NotDir, IsDir, Inval, FBig, NoSpc, NameTooLong, NotEmpty, Stale, BadHandle, NotSupp, TooSmall, ServerFault, BadType, Delay, Denied, Expired, Locked, Grace, ShareDenied, ClidInUse, Resource, Moved, NoFileHandle, MinorVersMismatch, StaleClientId, StaleStateId, OldStateId, BadStateId, BadSeqid, NotSame, RestoreFh, LeaseMoved, AttrNotSupp, NoGrace, BadXdr, LocksHeld, OpenMode, BadName, OpIllegal, FileOpen}
 use Rattle.nm_script.specs.declared.report.Told.{Told}
 use Rattle.nm_script.specs.declared.report.Told.TheVariants.{Answered, Wrote, Read, Listed, Denied as DeniedBy, Refused, NoState, Busy, Delayed, Stopped}
 use Rattle.nm_script.specs.declared.report.OutcomeRow.{OutcomeRow}

@@ -2,17 +2,17 @@
 use Rattle.std.specs.Prelude.{◌≡◌, ℕ, ◌+◌, ◌^◌, Bool, true, false, not, ◌&&◌, ◌||◌, ◌==◌, nat_lt, nat_le, List, [], ◌∷◌, ◌++◌, length, take, Option, Some, None, Result, Ok, Err, if◌then◌else◌, codes, position}
 use Rattle.std.specs.List.{list_any, onto_first}
 use Rattle.std.specs.Str.{bytes_eq}
-use Rattle.nm_rules.specs.declared.action.Action.{Action}
-use Rattle.nm_rules.specs.declared.action.Action.TheVariants as actions
-use Rattle.nm_rules.specs.declared.action.OpenAction.{OpenAction}
-use Rattle.nm_rules.specs.declared.action.CloseAction.{CloseAction}
-use Rattle.nm_rules.specs.declared.action.LockAction.{LockAction}
-use Rattle.nm_rules.specs.declared.action.UnlockAction.{UnlockAction}
-use Rattle.nm_rules.specs.declared.action.ReleaseAction.{ReleaseAction}
-use Rattle.nm_rules.specs.declared.action.ReadAction.{ReadAction}
-use Rattle.nm_rules.specs.declared.action.WriteAction.{WriteAction}
-use Rattle.nm_rules.specs.declared.action.SizeAction.{SizeAction}
-use Rattle.nm_rules.specs.declared.action.NameAction.{NameAction}
+use Rattle.nm_types.specs.declared.action.Action.{Action}
+use Rattle.nm_types.specs.declared.action.Action.TheVariants as actions
+use Rattle.nm_types.specs.declared.action.OpenAction.{OpenAction}
+use Rattle.nm_types.specs.declared.action.CloseAction.{CloseAction}
+use Rattle.nm_types.specs.declared.action.LockAction.{LockAction}
+use Rattle.nm_types.specs.declared.action.UnlockAction.{UnlockAction}
+use Rattle.nm_types.specs.declared.action.ReleaseAction.{ReleaseAction}
+use Rattle.nm_types.specs.declared.action.ReadAction.{ReadAction}
+use Rattle.nm_types.specs.declared.action.WriteAction.{WriteAction}
+use Rattle.nm_types.specs.declared.action.SizeAction.{SizeAction}
+use Rattle.nm_types.specs.declared.action.NameAction.{NameAction}
 use Rattle.nm_script.specs.declared.script.Head.{Head}
 use Rattle.nm_script.specs.declared.script.Line.{Line}
 use Rattle.nm_script.specs.declared.script.Line.TheVariants.{Do, Finish, Move, Freeze, Abandon, Commit, Settle, Shift, Show}

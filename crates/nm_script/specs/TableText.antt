@@ -1,9 +1,9 @@
 -- The printed text of what is held in a file system.
 use Rattle.std.specs.Prelude.{ℕ, Bool, ◌==◌, ◌&&◌, ◌||◌, nat_lt, List, [], ◌∷◌, ◌++◌, codes, decimal, flat_map, map, if◌then◌else◌}
-use Rattle.nm_rules.specs.declared.results.LockRange.{LockRange}
-use Rattle.nm_rules.specs.declared.table.HeldKind.{HeldKind}
-use Rattle.nm_rules.specs.declared.table.HeldKind.TheVariants.{Open, Lock}
-use Rattle.nm_rules.specs.declared.table.HeldRow.{HeldRow}
+use Rattle.nm_types.specs.declared.results.LockRange.{LockRange}
+use Rattle.nm_types.specs.declared.table.HeldKind.{HeldKind}
+use Rattle.nm_types.specs.declared.table.HeldKind.TheVariants.{Open, Lock}
+use Rattle.nm_types.specs.declared.table.HeldRow.{HeldRow}
 use Rattle.nm_script.specs.declared.report.PhaseNow.{PhaseNow}
 use Rattle.nm_script.specs.LockText.{range_text}
 use Rattle.nm_script.specs.MoveText.{phase_text}

@@ -9,7 +9,7 @@ use crate::order::{Kind, first_kind, may_follow};
 use crate::run::run_line;
 use crate::words::{has_empty_word, is_printable, is_word, number, says_something, words_of};
 use crate::{ClientRow, FsRow, Head, Lines, Script, ServerRow, Why};
-use nm_rules::{Bytes, Items};
+use nm_types::{Bytes, Items};
 use std::alloc::Global;
 
 /// How many bytes a line may have.
@@ -38,7 +38,7 @@ fn is_full(head: &Head, kind: Kind) -> bool
 }
 
 /// What the lines so far say.
-#[derive(Debug, Drop)]
+#[derive(Drop)]
 pub(crate) struct Draft {
     /// What the last line was that said something.
     last: Option<Kind>,

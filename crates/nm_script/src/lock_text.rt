@@ -5,7 +5,7 @@ ghost use Rattle.nm_script.specs.LockText.{length_of, range_text, denied_text};
 ghost use Rattle.nm_script.specs.Writing.{Stands};
 
 use crate::writing::{append, append_number};
-use nm_rules::{Denied, LockKind, LockRange, Memory};
+use nm_types::{Denied, LockKind, LockRange, Memory};
 
 // The word of a kind.
 fn kind_word(kind: LockKind) -> &'static [u8]

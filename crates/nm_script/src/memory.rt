@@ -4,11 +4,11 @@ ghost use Rattle.std.specs.Bool.{OnTrue};
 ghost use Rattle.nm_script.specs.Outside.{HasRisen};
 
 use crate::{Failed, Sink, Source};
-use nm_rules::Memory;
+use nm_types::Memory;
 use std::alloc::Global;
 
 // The calls that are to fail, counted from 1, and how many came and how many failed.
-#[derive(Debug, Drop)]
+#[derive(Drop)]
 struct Faults {
     failing: Vec<u64>,
     calls: u64,
@@ -49,7 +49,7 @@ impl Faults {
 }
 
 /// Bytes that are read from memory, a piece at a time.
-#[derive(Debug, Drop)]
+#[derive(Drop)]
 pub struct MemorySource {
     bytes: Vec<u8>,
     at: usize,
@@ -122,7 +122,7 @@ impl Source for MemorySource {
 }
 
 /// What was written to memory, a piece at a time.
-#[derive(Debug, Drop)]
+#[derive(Drop)]
 pub struct MemorySink {
     held: Vec<u8>,
     piece: usize,

@@ -5,7 +5,7 @@ ghost use Rattle.nm_script.specs.Writing.{Stands};
 
 use crate::writing::{append, append_number};
 use crate::{MoveNames, MoveRow, MoveTold, PhaseNow, PhaseReport};
-use nm_rules::{Cause, Memory};
+use nm_types::{Cause, Memory};
 
 #[tactic(auto, using(crate::proofs::TextLemmas::stands_more), unfolding(crate::specs::MoveText::names_text))]
 fn append_names(out: &mut Vec<u8>, names: &MoveNames) -> Result<(), Memory>

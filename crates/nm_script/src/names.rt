@@ -4,7 +4,7 @@ ghost use Rattle.nm_script.specs.Reading as spec;
 
 use crate::words::{is_name, is_word};
 use crate::{Head, Why};
-use nm_rules::{FsNum, ServerNum};
+use nm_types::{FsNum, ServerNum};
 
 fn is_server(head: &Head, name: &[u8]) -> bool
     ensures { result ≡ spec.is_server head.now name.now }

@@ -11,7 +11,7 @@ use crate::words::is_word;
 /// ```
 ///
 /// The first three come in every script, and each of the others may be missing.
-#[derive(Clone, Copy, Debug, PartialEq, Eq)]
+#[derive(Clone, Copy)]
 pub(crate) enum Kind {
     Version,
     Lease,

@@ -6,7 +6,7 @@ ghost use Rattle.nm_script.specs.Writing.{Stands};
 use crate::lock_text::append_denied;
 use crate::writing::{append, append_number};
 use crate::{IdleRow, OutcomeRow, Told};
-use nm_rules::{Bytes, Memory, OpStatus, ReadOk, Verb};
+use nm_types::{Bytes, Memory, OpStatus, ReadOk, Verb};
 
 // The printed word of a status.
 #[tactic(auto, unfolding(crate::specs::OutcomeText::status_text))]

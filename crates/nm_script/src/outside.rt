@@ -6,7 +6,7 @@ ghost use Rattle.nm_script.specs.declared.outside.ReadAllFault.TheVariants.{Fail
 use std::alloc::{AllocError, Global};
 
 /// A call of a source or of a sink failed, and the object's count of faults has risen.
-#[derive(Clone, Copy, Debug, PartialEq, Eq)]
+#[derive(Clone, Copy, Debug)]
 pub struct Failed;
 
 /// Where bytes come from.
@@ -52,7 +52,7 @@ pub trait Sink {
 }
 
 /// Why a source was not read.
-#[derive(Clone, Copy, Debug, PartialEq, Eq)]
+#[derive(Clone, Copy, Debug)]
 pub enum ReadAllFault {
     /// The source failed, and its count of faults has risen.
     Failed,

@@ -1,11 +1,11 @@
 //! What came of a line, with texts for names: the rows that it prints.
-use nm_rules::{Bytes, Cause, Denied, HeldTable, Items, MoveNum, OpStatus, ReadOk, Verb};
+use nm_types::{Bytes, Cause, Denied, HeldTable, Items, MoveNum, OpStatus, ReadOk, Verb};
 
 /// Names of files and directories.
 pub type Names = Items<Bytes>;
 
 /// What a client was told of an action.
-#[derive(Debug, PartialEq, Eq, Drop)]
+#[derive(Drop)]
 pub enum Told {
     /// The status of the operation that decided: `STATUS`.
     Answered(OpStatus),
@@ -30,7 +30,7 @@ pub enum Told {
 }
 
 /// The outcome of a client's action: the line `C VERB TOLD`.
-#[derive(Debug, PartialEq, Eq, Drop)]
+#[derive(Drop)]
 pub struct OutcomeRow {
     /// The client's name.
     pub client: Bytes,
@@ -39,14 +39,14 @@ pub struct OutcomeRow {
 }
 
 /// A client that had nothing in hand to go on with: the line `C idle`.
-#[derive(Debug, PartialEq, Eq, Drop)]
+#[derive(Drop)]
 pub struct IdleRow {
     /// The client's name.
     pub client: Bytes,
 }
 
 /// A move, with the names of its servers.
-#[derive(Debug, PartialEq, Eq, Drop)]
+#[derive(Drop)]
 pub struct MoveNames {
     /// The server that the file system leaves.
     pub source: Bytes,
@@ -56,7 +56,7 @@ pub struct MoveNames {
 }
 
 /// Who has a file system, with the names of servers.
-#[derive(Debug, PartialEq, Eq, Drop)]
+#[derive(Drop)]
 pub enum PhaseNow {
     /// This server serves it: `F at S`.
     At(Bytes),
@@ -69,7 +69,7 @@ pub enum PhaseNow {
 }
 
 /// Who has a file system: its phase line.
-#[derive(Debug, PartialEq, Eq, Drop)]
+#[derive(Drop)]
 pub struct PhaseReport {
     /// The file system's name.
     pub file_system: Bytes,
@@ -77,7 +77,7 @@ pub struct PhaseReport {
 }
 
 /// What is held in a file system: its phase line and the lines of its table.
-#[derive(Debug, PartialEq, Eq, Drop)]
+#[derive(Drop)]
 pub struct HeldReport {
     /// The file system's name.
     pub file_system: Bytes,
@@ -86,7 +86,7 @@ pub struct HeldReport {
 }
 
 /// What came of a line that moves a file system, where that isn't a phase line.
-#[derive(Debug, PartialEq, Eq, Drop)]
+#[derive(Drop)]
 pub enum MoveTold {
     /// The source has given it away already: `F notserved`.
     NotServed,
@@ -109,7 +109,7 @@ pub enum MoveTold {
 }
 
 /// What came of a line that moves a file system: the line `F TOLD`.
-#[derive(Debug, PartialEq, Eq, Drop)]
+#[derive(Drop)]
 pub struct MoveRow {
     /// The file system's name.
     pub file_system: Bytes,
@@ -117,7 +117,7 @@ pub struct MoveRow {
 }
 
 /// One row of a report.
-#[derive(Debug, PartialEq, Eq, Drop)]
+#[derive(Drop)]
 pub enum ReportRow {
     Outcome(OutcomeRow),
     Idle(IdleRow),

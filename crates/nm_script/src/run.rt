@@ -7,7 +7,7 @@ use crate::fault::LineFault;
 use crate::names::{client_number, file_system_number, server_number};
 use crate::words::{access, bytes, count, deny, is_file_name, is_name, is_word, lock_kind, number};
 use crate::{Head, Line, Why};
-use nm_rules::{
+use nm_types::{
     Action, Bytes, CloseAction, LockAction, NameAction, OpenAction, ReadAction, ReleaseAction,
     SizeAction, UnlockAction, WriteAction,
 };

@@ -1,8 +1,8 @@
 //! A script: a head that names servers, file systems and clients, and the lines that are run.
-use nm_rules::{Action, Bytes, FsNum, Items, ServerNum};
+use nm_types::{Action, Bytes, FsNum, Items, ServerNum};
 
 /// A line `server NAME`. Servers are numbered from 0 in order.
-#[derive(Debug, PartialEq, Eq, Drop)]
+#[derive(Drop)]
 pub struct ServerRow {
     pub name: Bytes,
 }
@@ -10,7 +10,7 @@ pub struct ServerRow {
 pub type ServerRows = Items<ServerRow>;
 
 /// A line `fs NAME at SERVER`. File systems are numbered from 0 in order.
-#[derive(Debug, PartialEq, Eq, Drop)]
+#[derive(Drop)]
 pub struct FsRow {
     pub name: Bytes,
     pub at: ServerNum,
@@ -19,7 +19,7 @@ pub struct FsRow {
 pub type FsRows = Items<FsRow>;
 
 /// A line `client NAME VERIFIER`. Clients are numbered from 0 in order.
-#[derive(Debug, PartialEq, Eq, Drop)]
+#[derive(Drop)]
 pub struct ClientRow {
     pub name: Bytes,
     pub verifier: u64,
@@ -28,7 +28,7 @@ pub struct ClientRow {
 pub type ClientRows = Items<ClientRow>;
 
 /// The head of a script.
-#[derive(Debug, PartialEq, Eq, Drop)]
+#[derive(Drop)]
 pub struct Head {
     /// The lease time in seconds, from 1 to 3,600.
     pub lease: u32,
@@ -38,7 +38,7 @@ pub struct Head {
 }
 
 /// A line that is run, with numbers for names.
-#[derive(Debug, PartialEq, Eq, Drop)]
+#[derive(Drop)]
 pub enum Line {
     /// `do C ACTION`: the client of that number acts.
     Do { client: u32, action: Action },
@@ -63,14 +63,14 @@ pub enum Line {
 pub type Lines = Items<Line>;
 
 /// A script: its head, and its lines in order. Comments and empty lines leave nothing.
-#[derive(Debug, PartialEq, Eq, Drop)]
+#[derive(Drop)]
 pub struct Script {
     pub head: Head,
     pub lines: Lines,
 }
 
 /// Why a line is refused. The first that holds, in this order, is the answer.
-#[derive(Clone, Copy, Debug, PartialEq, Eq)]
+#[derive(Clone, Copy, Debug)]
 pub enum Why {
     /// A line past the last one that is taken, a line of more than 4,096 bytes, or a name past the last of its kind.
     Limit,
@@ -87,7 +87,7 @@ pub enum Why {
 }
 
 /// Why bytes are no script.
-#[derive(Clone, Copy, Debug, PartialEq, Eq)]
+#[derive(Clone, Copy, Debug)]
 pub enum ScriptFault {
     /// The first bad line, from 1, and why it is bad.
     At { line: u64, why: Why },

@@ -8,7 +8,7 @@ use crate::PhaseNow;
 use crate::lock_text::append_range;
 use crate::move_text::append_phase;
 use crate::writing::{append, append_number};
-use nm_rules::{HeldKind, HeldRow, HeldTable, LockRange, Memory};
+use nm_types::{HeldKind, HeldRow, HeldTable, LockRange, Memory};
 use std::alloc::Global;
 
 #[tactic(auto, using(crate::proofs::TextLemmas::stands_more), unfolding(crate::specs::TableText::access_text))]

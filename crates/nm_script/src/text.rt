@@ -9,7 +9,7 @@ use crate::outcome_text::{append_idle, append_outcome};
 use crate::table_text::append_table;
 use crate::writing::{append, append_number};
 use crate::{PhaseNow, Report, ReportRow, Why};
-use nm_rules::{HeldTable, Memory};
+use nm_types::{HeldTable, Memory};
 use std::alloc::Global;
 
 // The printed word of why a script is refused.

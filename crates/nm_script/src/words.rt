@@ -7,7 +7,7 @@ ghost use Rattle.nm_script.specs.Reading.{Gives, count_at};
 use crate::Why;
 use crate::fault::LineFault;
 use hex::FromHexError;
-use nm_rules::{Bytes, LockKind, Memory};
+use nm_types::{Bytes, LockKind, Memory};
 use std::alloc::Global;
 
 /// The words of a line, which stand apart by one space. Two spaces have an empty word between them.

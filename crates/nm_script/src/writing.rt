@@ -2,7 +2,7 @@
 ghost use Rattle.std.specs.Prelude.{◌≡◌, ◌++◌, decimal, OnOk, OnErr};
 ghost use Rattle.nm_script.specs.Writing.{Stands};
 
-use nm_rules::Memory;
+use nm_types::Memory;
 
 /// Writes a text behind what was written.
 #[tactic(auto, using(crate::proofs::TextLemmas::stands_still))]

@@ -4,8 +4,8 @@ use Rattle.std.specs.Prelude.{map, nat_lt, option_map, ◌==◌}
 use Rattle.std.proofs.lemmas.Bool.Decides.{nat_tests}
 use Rattle.nm_rules.specs.Shares.{put_open, put_if, open_at, open_of, opened_row, opens_after}
 use Rattle.nm_rules.specs.Sound.{rises}
-use Rattle.nm_rules.specs.declared.rows.OpenRow.{OpenRow}
-use Rattle.nm_rules.specs.declared.calls.Owner.{Owner}
+use Rattle.nm_types.specs.declared.rows.OpenRow.{OpenRow}
+use Rattle.nm_types.specs.declared.calls.Owner.{Owner}
 use Rattle.nm_shares.specs.Rows.{row_to_take, last_after, state_of, changed_row, changed_at, ChangedTo, Took}
 use Rattle.nm_shares.specs.declared.rows.Change.{Change}
 use Rattle.nm_shares.specs.declared.rows.Change.TheVariants.{Joined}

@@ -1,16 +1,16 @@
 -- What `Shares` keeps, and what each call makes of it.
 use Rattle.std.specs.Prelude.{◌≡◌, ◌==◌, true, ℕ, ◌+◌, Bool, List, [], Some, Result, Ok, Err, is_none, option_map, bit_or, if◌then◌else◌}
 use Rattle.nm_rules.specs.Sound.{rises}
-use Rattle.nm_rules.specs.Parties.{Party}
+use Rattle.nm_types.specs.Parties.{Party}
 use Rattle.nm_rules.specs.Opens.{is_narrower}
 use Rattle.nm_rules.specs.Shares.{next_seqid, open_at, open_of, opened_row, renewed_row, narrowed_row, is_opposed, put_open, put_if, opens_after}
 use Rattle.nm_rules.specs.Shares.OpenWord.{Drop, DropOf}
-use Rattle.nm_rules.specs.declared.calls.Owner.{Owner}
-use Rattle.nm_rules.specs.declared.rows.OpenRow.{OpenRow}
-use Rattle.nm_rules.specs.declared.memory.Refusal.{Refusal}
-use Rattle.nm_rules.specs.declared.memory.Refusal.TheVariants.{Status, Memory}
-use Rattle.nm_rules.specs.declared.status.OpStatus.{OpStatus}
-use Rattle.nm_rules.specs.declared.status.OpStatus.TheVariants.{Inval, ShareDenied}
+use Rattle.nm_types.specs.declared.calls.Owner.{Owner}
+use Rattle.nm_types.specs.declared.rows.OpenRow.{OpenRow}
+use Rattle.nm_types.specs.declared.memory.Refusal.{Refusal}
+use Rattle.nm_types.specs.declared.memory.Refusal.TheVariants.{Status, Memory}
+use Rattle.nm_types.specs.declared.status.OpStatus.{OpStatus}
+use Rattle.nm_types.specs.declared.status.OpStatus.TheVariants.{Inval, ShareDenied}
 use Rattle.nm_shares.specs.declared.rows.Change.{Change}
 use Rattle.nm_shares.specs.declared.rows.Change.TheVariants.{Joined, Renewed, Narrowed}
 use Rattle.nm_shares.specs.declared.state.State.{State}

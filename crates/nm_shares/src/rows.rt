@@ -7,7 +7,7 @@ ghost use Rattle.nm_rules.specs.Shares.{next_seqid, is_opposed, open_at, open_of
 ghost use Rattle.nm_rules.specs.Shares.OpenWord.{DropOf};
 
 use crate::State;
-use nm_rules::{Instance, Memory, OpenRow, Owner};
+use nm_types::{Instance, Memory, OpenRow, Owner};
 use std::alloc::Global;
 
 /// The seqid that follows one of a stateid (RFC 7530, 9.1.4.2): after the greatest comes 1.

@@ -10,12 +10,12 @@ use crate::rows::{
     Change, copy_rows, drop_at, drop_of, find_at, find_of, is_narrower, next_state, opposed, renew,
     take,
 };
-use nm_rules::{FsNum, Instance, Memory, OpStatus, OpenRow, Owner, Refusal};
+use nm_types::{FsNum, Instance, Memory, OpStatus, OpenRow, Owner, Refusal};
 use std::alloc::Global;
 use std::marker::Model;
 
 /// The live opens of one file system, by rising counter, with the counter of the last stateid that was made.
-#[derive(Debug, Drop)]
+#[derive(Drop)]
 pub struct Shares {
     fs: FsNum,
     grants: bool,

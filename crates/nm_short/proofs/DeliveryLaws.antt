@@ -6,7 +6,7 @@ use Rattle.nm_slot.specs.declared.answers.Accept.{Accept}
 use Rattle.nm_slot.specs.declared.answers.Accept.TheVariants as accept
 use Rattle.nm_slot.specs.declared.answers.Install.{Install}
 use Rattle.nm_slot.specs.declared.answers.Install.TheVariants as install
-use Rattle.nm_rules.specs.Parties.{Party}
+use Rattle.nm_types.specs.Parties.{Party}
 use Rattle.nm_slot.specs.Answers.{accept_answer, commit_answer, install_answer, install_ends}
 use Rattle.nm_slot.specs.Changes.{slot_after}
 use Rattle.nm_slot.specs.History.{IsHistory, own_now, tables_now}

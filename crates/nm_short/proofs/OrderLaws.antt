@@ -5,7 +5,7 @@ use Rattle.nm_script.specs.declared.script.Head.{Head}
 use Rattle.nm_slot.specs.declared.answers.Abandon.{Abandon}
 use Rattle.nm_slot.specs.declared.answers.Begin.{Begin}
 use Rattle.nm_slot.specs.declared.answers.Begin.TheVariants as begin
-use Rattle.nm_rules.specs.Parties.{Party}
+use Rattle.nm_types.specs.Parties.{Party}
 use Rattle.nm_slot.specs.Answers.{begin_answer, abandon_answer, abandon_ends}
 use Rattle.nm_slot.specs.SlotNow.{SlotStep}
 use Rattle.nm_slot.specs.SlotNow.SlotStep.{Beginning, Abandoning}

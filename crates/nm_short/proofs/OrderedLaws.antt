@@ -1,6 +1,6 @@
 -- Every line of an operator is the same over tables as over steps.
 use Rattle.std.proofs.Common.{◌≡◌, ◌<◌, ℕ, Bool, true, false, cond, List, [], ◌∷◌, ◌++◌, refl, sym, subst, ap, ◌∙◌}
-use Rattle.nm_rules.specs.declared.table.HeldRow.{HeldRow}
+use Rattle.nm_types.specs.declared.table.HeldRow.{HeldRow}
 use Rattle.nm_script.specs.declared.script.Head.{Head}
 use Rattle.nm_script.specs.declared.report.ReportRow.{ReportRow}
 use Rattle.nm_script.specs.declared.report.ReportRow.TheVariants.{Held}

@@ -2,7 +2,7 @@
 use Rattle.std.proofs.Common.{◌≡◌, ◌<◌, ◌≤◌, ◌+◌, ℕ, Bool, true, false, cond, List, [], ◌∷◌, ◌++◌, take, drop, length, get_or, set, add-one, refl, ap, sym, ◌∙◌, arith, append_assoc}
 use Rattle.std.proofs.lemmas.List.{append-nil, drop-set-lt, drop_all, set_split, take_all, take_more_set}
 use Rattle.std.proofs.Math.Seq.{drop-cons}
-use Rattle.nm_rules.specs.declared.calls.Call.{Call}
+use Rattle.nm_types.specs.declared.calls.Call.{Call}
 use Rattle.nm_short.specs.declared.locking.Freed.{Freed}
 use Rattle.nm_short.specs.declared.locking.Freed.TheVariants.{On}
 use Rattle.nm_short.specs.Files.{freed_in, all_freed_in}

@@ -1,6 +1,6 @@
 -- A file system, as the code keeps it.
 use Rattle.std.specs.Prelude.{ℕ, List, [], ◌∷◌, Option, Some, None, IfSome}
-use Rattle.nm_rules.specs.declared.cause.Cause.TheVariants as cause
+use Rattle.nm_types.specs.declared.cause.Cause.TheVariants as cause
 use Rattle.nm_script.specs.declared.report.MoveTold.TheVariants as move_told
 use Rattle.nm_script.specs.declared.script.Head.{Head}
 use Rattle.nm_slot.specs.declared.answers.Accept.{Accept}

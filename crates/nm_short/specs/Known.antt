@@ -2,44 +2,43 @@
 use Rattle.std.specs.Prelude.{ℕ, ◌==◌, ◌&&◌, not, Bool, false, List, [], ◌∷◌, ◌++◌, map, Option, Some, None, find, filter, option_map, unwrap_or, codes, if◌then◌else◌}
 use Rattle.std.specs.List.{list_any}
 use Rattle.std.specs.Str.{bytes_eq}
-use Rattle.nm_rules.specs.Parties.{Party}
-use Rattle.nm_rules.specs.Past.{is_done}
-use Rattle.nm_rules.specs.Seqids.{advances}
+use Rattle.nm_types.specs.Parties.{Party}
+use Rattle.nm_types.specs.Statuses.{is_done, advances}
 use Rattle.nm_rules.specs.Shares.{next_seqid}
-use Rattle.nm_rules.specs.declared.action.Action.{Action}
-use Rattle.nm_rules.specs.Wire.{hyper}
-use Rattle.nm_rules.specs.declared.action.Action.TheVariants as action
-use Rattle.nm_rules.specs.declared.action.CloseAction.{CloseAction}
-use Rattle.nm_rules.specs.declared.action.LockAction.{LockAction}
-use Rattle.nm_rules.specs.declared.action.OpenAction.{OpenAction}
-use Rattle.nm_rules.specs.declared.action.ReadAction.{ReadAction}
-use Rattle.nm_rules.specs.declared.action.ReleaseAction.{ReleaseAction}
-use Rattle.nm_rules.specs.declared.action.SizeAction.{SizeAction}
-use Rattle.nm_rules.specs.declared.action.UnlockAction.{UnlockAction}
-use Rattle.nm_rules.specs.declared.action.WriteAction.{WriteAction}
-use Rattle.nm_rules.specs.declared.args.Claim.TheVariants.{Null}
-use Rattle.nm_rules.specs.declared.args.CreateType.TheVariants.{Directory}
-use Rattle.nm_rules.specs.declared.args.Fattr.{Fattr}
-use Rattle.nm_rules.specs.declared.args.LockType.{LockType}
-use Rattle.nm_rules.specs.declared.args.LockType.TheVariants as lock_type
-use Rattle.nm_rules.specs.declared.args.Locker.{Locker}
-use Rattle.nm_rules.specs.declared.args.Locker.TheVariants as locker
-use Rattle.nm_rules.specs.declared.args.OpenType.{OpenType}
-use Rattle.nm_rules.specs.declared.args.OpenType.TheVariants.{NoCreate, Unchecked}
-use Rattle.nm_rules.specs.declared.args.Stable.TheVariants.{FileSync}
-use Rattle.nm_rules.specs.declared.calls.Call.{Call}
-use Rattle.nm_rules.specs.declared.calls.Deed.{Deed}
-use Rattle.nm_rules.specs.declared.calls.Deed.TheVariants as deed
-use Rattle.nm_rules.specs.declared.calls.StateId.{StateId}
-use Rattle.nm_rules.specs.declared.calls.StateRef.TheVariants.{Named}
-use Rattle.nm_rules.specs.declared.calls.Reply.{Reply}
-use Rattle.nm_rules.specs.declared.calls.ReplyValue.{ReplyValue}
-use Rattle.nm_rules.specs.declared.calls.ReplyValue.TheVariants.{Open as OpenReply, Close as CloseReply, OpenConfirm as ConfirmReply, OpenDowngrade as DowngradeReply, Lock as LockReply, Unlock as UnlockReply}
-use Rattle.nm_rules.specs.declared.results.LockKind.{LockKind}
-use Rattle.nm_rules.specs.declared.results.LockKind.TheVariants as kind
-use Rattle.nm_rules.specs.declared.results.LockOutcome.TheVariants.{Locked}
-use Rattle.nm_rules.specs.declared.results.Opened.{Opened}
-use Rattle.nm_rules.specs.declared.status.OpStatus.{OpStatus}
+use Rattle.nm_types.specs.declared.action.Action.{Action}
+use Rattle.nm_types.specs.Wire.{hyper}
+use Rattle.nm_types.specs.declared.action.Action.TheVariants as action
+use Rattle.nm_types.specs.declared.action.CloseAction.{CloseAction}
+use Rattle.nm_types.specs.declared.action.LockAction.{LockAction}
+use Rattle.nm_types.specs.declared.action.OpenAction.{OpenAction}
+use Rattle.nm_types.specs.declared.action.ReadAction.{ReadAction}
+use Rattle.nm_types.specs.declared.action.ReleaseAction.{ReleaseAction}
+use Rattle.nm_types.specs.declared.action.SizeAction.{SizeAction}
+use Rattle.nm_types.specs.declared.action.UnlockAction.{UnlockAction}
+use Rattle.nm_types.specs.declared.action.WriteAction.{WriteAction}
+use Rattle.nm_types.specs.declared.args.Claim.TheVariants.{Null}
+use Rattle.nm_types.specs.declared.args.CreateType.TheVariants.{Directory}
+use Rattle.nm_types.specs.declared.args.Fattr.{Fattr}
+use Rattle.nm_types.specs.declared.args.LockType.{LockType}
+use Rattle.nm_types.specs.declared.args.LockType.TheVariants as lock_type
+use Rattle.nm_types.specs.declared.args.Locker.{Locker}
+use Rattle.nm_types.specs.declared.args.Locker.TheVariants as locker
+use Rattle.nm_types.specs.declared.args.OpenType.{OpenType}
+use Rattle.nm_types.specs.declared.args.OpenType.TheVariants.{NoCreate, Unchecked}
+use Rattle.nm_types.specs.declared.args.Stable.TheVariants.{FileSync}
+use Rattle.nm_types.specs.declared.calls.Call.{Call}
+use Rattle.nm_types.specs.declared.calls.Deed.{Deed}
+use Rattle.nm_types.specs.declared.calls.Deed.TheVariants as deed
+use Rattle.nm_types.specs.declared.calls.StateId.{StateId}
+use Rattle.nm_types.specs.declared.calls.StateRef.TheVariants.{Named}
+use Rattle.nm_types.specs.declared.calls.Reply.{Reply}
+use Rattle.nm_types.specs.declared.calls.ReplyValue.{ReplyValue}
+use Rattle.nm_types.specs.declared.calls.ReplyValue.TheVariants.{Open as OpenReply, Close as CloseReply, OpenConfirm as ConfirmReply, OpenDowngrade as DowngradeReply, Lock as LockReply, Unlock as UnlockReply}
+use Rattle.nm_types.specs.declared.results.LockKind.{LockKind}
+use Rattle.nm_types.specs.declared.results.LockKind.TheVariants as kind
+use Rattle.nm_types.specs.declared.results.LockOutcome.TheVariants.{Locked}
+use Rattle.nm_types.specs.declared.results.Opened.{Opened}
+use Rattle.nm_types.specs.declared.status.OpStatus.{OpStatus}
 use Rattle.nm_script.specs.declared.script.ClientRow.{ClientRow}
 use Rattle.nm_short.specs.declared.clients.Believed.{Believed}
 use Rattle.nm_short.specs.declared.clients.Holding.{Holding}

@@ -1,25 +1,25 @@
 -- The requests of an action: the reply to each, what goes on with it, and what the client is told of them.
 use Rattle.std.specs.Prelude.{ℕ, Bool, true, false, List, [], ◌∷◌, ◌==◌, not, bit_and, map, Option, Some, None, if◌then◌else◌}
 use Rattle.nm_rules.specs.Answer.{reply_with, refused_value}
-use Rattle.nm_rules.specs.Parties.{Party}
-use Rattle.nm_rules.specs.Past.{is_done}
+use Rattle.nm_types.specs.Parties.{Party}
+use Rattle.nm_types.specs.Statuses.{is_done}
 use Rattle.nm_rules.specs.Shares.{next_seqid}
-use Rattle.nm_rules.specs.declared.action.Action.{Action}
-use Rattle.nm_rules.specs.declared.action.Action.TheVariants as action
-use Rattle.nm_rules.specs.declared.args.OpenArgs.{OpenArgs}
-use Rattle.nm_rules.specs.declared.args.ReadDirArgs.{ReadDirArgs}
-use Rattle.nm_rules.specs.declared.calls.Call.{Call}
-use Rattle.nm_rules.specs.declared.calls.Deed.{Deed}
-use Rattle.nm_rules.specs.declared.calls.Deed.TheVariants as deed
-use Rattle.nm_rules.specs.declared.calls.Reply.{Reply}
-use Rattle.nm_rules.specs.declared.calls.ReplyValue.{ReplyValue}
-use Rattle.nm_rules.specs.declared.calls.ReplyValue.TheVariants as value
-use Rattle.nm_rules.specs.declared.results.DirEntry.{DirEntry}
-use Rattle.nm_rules.specs.declared.results.LockOutcome.TheVariants.{Denied as IsDenied}
-use Rattle.nm_rules.specs.declared.results.Opened.{Opened}
-use Rattle.nm_rules.specs.declared.results.ReadDirOk.{ReadDirOk}
-use Rattle.nm_rules.specs.declared.status.OpStatus.{OpStatus}
-use Rattle.nm_rules.specs.declared.status.OpStatus.TheVariants as status
+use Rattle.nm_types.specs.declared.action.Action.{Action}
+use Rattle.nm_types.specs.declared.action.Action.TheVariants as action
+use Rattle.nm_types.specs.declared.args.OpenArgs.{OpenArgs}
+use Rattle.nm_types.specs.declared.args.ReadDirArgs.{ReadDirArgs}
+use Rattle.nm_types.specs.declared.calls.Call.{Call}
+use Rattle.nm_types.specs.declared.calls.Deed.{Deed}
+use Rattle.nm_types.specs.declared.calls.Deed.TheVariants as deed
+use Rattle.nm_types.specs.declared.calls.Reply.{Reply}
+use Rattle.nm_types.specs.declared.calls.ReplyValue.{ReplyValue}
+use Rattle.nm_types.specs.declared.calls.ReplyValue.TheVariants as value
+use Rattle.nm_types.specs.declared.results.DirEntry.{DirEntry}
+use Rattle.nm_types.specs.declared.results.LockOutcome.TheVariants.{Denied as IsDenied}
+use Rattle.nm_types.specs.declared.results.Opened.{Opened}
+use Rattle.nm_types.specs.declared.results.ReadDirOk.{ReadDirOk}
+use Rattle.nm_types.specs.declared.status.OpStatus.{OpStatus}
+use Rattle.nm_types.specs.declared.status.OpStatus.TheVariants as status
 use Rattle.nm_script.specs.declared.report.Told.{Told}
 use Rattle.nm_script.specs.declared.report.Told.TheVariants as told
 use Rattle.nm_slot.specs.declared.answers.Answer.{Answer}

@@ -2,15 +2,15 @@
 -- the servers of a move send one another is delivered by the lines `commit` and `settle`. A file system is nothing but
 -- the list of its servers' steps.
 use Rattle.std.specs.Prelude.{ℕ, zero, suc, ◌+◌, Bool, true, false, List, [], ◌∷◌, ◌++◌, Option, Some, None, option_map, unwrap_or, slice_get, slice_set, if◌then◌else◌}
-use Rattle.nm_rules.specs.Actions.{verb_of, fs_of}
+use Rattle.nm_types.specs.Actions.{verb_of, fs_of}
 use Rattle.nm_rules.specs.Held.{held_table}
-use Rattle.nm_rules.specs.declared.action.Action.{Action}
-use Rattle.nm_rules.specs.declared.calls.Call.{Call}
-use Rattle.nm_rules.specs.declared.calls.Verdict.TheVariants.{Pass}
-use Rattle.nm_rules.specs.declared.calls.Reply.{Reply}
-use Rattle.nm_rules.specs.declared.cause.Cause.TheVariants as cause
-use Rattle.nm_rules.specs.declared.status.OpStatus.{OpStatus}
-use Rattle.nm_rules.specs.declared.status.OpStatus.TheVariants as status
+use Rattle.nm_types.specs.declared.action.Action.{Action}
+use Rattle.nm_types.specs.declared.calls.Call.{Call}
+use Rattle.nm_types.specs.declared.calls.Verdict.TheVariants.{Pass}
+use Rattle.nm_types.specs.declared.calls.Reply.{Reply}
+use Rattle.nm_types.specs.declared.cause.Cause.TheVariants as cause
+use Rattle.nm_types.specs.declared.status.OpStatus.{OpStatus}
+use Rattle.nm_types.specs.declared.status.OpStatus.TheVariants as status
 use Rattle.nm_script.specs.declared.script.ClientRow.{ClientRow}
 use Rattle.nm_script.specs.declared.script.Head.{Head}
 use Rattle.nm_script.specs.declared.script.FsRow.{FsRow}

@@ -1,16 +1,16 @@
 -- The same run over what the servers have: what the code keeps in the place of the list of steps.
 use Rattle.std.specs.Prelude.{ℕ, zero, suc, ◌+◌, ◌≤◌, All, length, Bool, true, false, List, [], ◌∷◌, ◌++◌, Option, Some, None, unwrap_or, replicate, slice_get, slice_set, if◌then◌else◌}
-use Rattle.nm_rules.specs.Actions.{fs_of}
+use Rattle.nm_types.specs.Actions.{fs_of}
 use Rattle.nm_rules.specs.Held.{held_table}
 use Rattle.nm_rules.specs.Seen.{empty}
-use Rattle.nm_rules.specs.declared.action.Action.{Action}
-use Rattle.nm_rules.specs.declared.calls.Call.{Call}
-use Rattle.nm_rules.specs.declared.calls.Reply.{Reply}
-use Rattle.nm_rules.specs.declared.calls.Verdict.TheVariants.{Pass}
-use Rattle.nm_rules.specs.declared.cause.Cause.TheVariants as cause
-use Rattle.nm_rules.specs.declared.status.OpStatus.{OpStatus}
-use Rattle.nm_rules.specs.declared.status.OpStatus.TheVariants as status
-use Rattle.nm_rules.specs.declared.table.HeldRow.{HeldRow}
+use Rattle.nm_types.specs.declared.action.Action.{Action}
+use Rattle.nm_types.specs.declared.calls.Call.{Call}
+use Rattle.nm_types.specs.declared.calls.Reply.{Reply}
+use Rattle.nm_types.specs.declared.calls.Verdict.TheVariants.{Pass}
+use Rattle.nm_types.specs.declared.cause.Cause.TheVariants as cause
+use Rattle.nm_types.specs.declared.status.OpStatus.{OpStatus}
+use Rattle.nm_types.specs.declared.status.OpStatus.TheVariants as status
+use Rattle.nm_types.specs.declared.table.HeldRow.{HeldRow}
 use Rattle.nm_script.specs.declared.script.ClientRow.{ClientRow}
 use Rattle.nm_script.specs.declared.script.FsRow.{FsRow}
 use Rattle.nm_script.specs.declared.script.Head.{Head}

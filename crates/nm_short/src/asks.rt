@@ -1,7 +1,7 @@
 //! What a client does with a file system.
 ghost use Rattle.std.specs.Prelude.{◌≡◌, ◌≤◌, ◌++◌, [], length, IfOk, OnOk, map, None};
 ghost use Rattle.nm_rules.specs.Answer.{refused_value};
-ghost use Rattle.nm_rules.specs.declared.calls.Verdict.TheVariants.{Pass};
+ghost use Rattle.nm_types.specs.declared.calls.Verdict.TheVariants.{Pass};
 ghost use Rattle.nm_slot.specs.Answers.{apply_answer};
 ghost use Rattle.nm_slot.specs.SlotNow.SlotStep.{Applying};
 ghost use Rattle.nm_short.specs.Files.{asked_in, freed_in, knocked_to, sent_on};
@@ -14,26 +14,26 @@ use crate::clients::{Clients, seqid_after};
 use crate::files::FileSlots;
 use crate::locking::{Freed, make_test};
 use crate::sends::{make_confirm, make_list};
-use nm_rules::{
+use nm_script::{ClientRow, Names, Told};
+use nm_slot::{Answer, Enter, FsPass};
+use nm_types::{
     Action, Call, Deed, DirEntry, Instance, Items, LockOutcome, Memory, OpStatus, OpenArgs, Opened,
     ReadDirArgs, ReadDirOk, Reply, ReplyValue, ServerNum,
 };
-use nm_script::{ClientRow, Names, Told};
-use nm_slot::{Answer, Enter, FsPass};
 use std::alloc::Global;
 
 /// So many requests one line may make.
 const REQUESTS_LIMIT: u64 = 1000;
 
 /// What came of a request: the reply, and the request that goes on with it.
-#[derive(Debug, Drop)]
+#[derive(Drop)]
 pub struct Replied {
     pub reply: Reply,
     pub next: Option<Call>,
 }
 
 /// What came of a request and of those that go on with it.
-#[derive(Debug, Drop)]
+#[derive(Drop)]
 pub struct Asked {
     /// The last reply; `None` where there were more requests to make.
     pub reply: Option<Reply>,
@@ -42,7 +42,7 @@ pub struct Asked {
 }
 
 /// Where a client knocked last, and the answer there; `None` where it was sent on each time.
-#[derive(Debug, Drop)]
+#[derive(Drop)]
 pub struct Knocked {
     pub server: ServerNum,
     pub door: Option<Enter>,
@@ -266,10 +266,11 @@ fn told_refused(status: OpStatus, value: ReplyValue) -> Told
 fn told_by(reply: Reply, names: Names) -> Told
     ensures { result ≡ told_by reply names }
 {
-    if reply.status.is_done() {
-        told_ok(reply.value, names)
+    let status = reply.status;
+    if status.is_done() {
+        told_ok(reply.into_value(), names)
     } else {
-        told_refused(reply.status, reply.value)
+        told_refused(status, reply.into_value())
     }
 }
 

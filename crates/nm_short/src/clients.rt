@@ -3,7 +3,7 @@ ghost use Rattle.std.specs.Prelude.{◌≡◌, ◌==◌, not, filter, find, map,
 ghost use Rattle.nm_rules.specs.Shares.{next_seqid};
 ghost use Rattle.nm_short.specs.Known.{knows_nothing, is_place_of, is_held_of, seqid_of, other_seqids, moved_on, held_of, others_held, holds_now, holds_opened, holds_closed, told_stateid, renewed_held, holds_told, learned, learned_opening, learned_open, learned_anew, learned_close, place_of, sent_to, hand_of, put_down, taken_up};
 
-use nm_rules::{
+use nm_types::{
     Action, Bytes, Call, CloseAction, Deed, FsNum, Memory, OpStatus, OpenAction, Reply, ReplyValue,
     ServerNum, StateId,
 };
@@ -11,7 +11,7 @@ use std::alloc::Global;
 use std::marker::Model;
 
 /// The next seqid of an owner of a client (RFC 7530, 9.1.7). An owner that isn't listed begins with 1.
-#[derive(Debug, PartialEq, Eq, Drop)]
+#[derive(Drop)]
 pub struct OwnerSeqid {
     pub client: u32,
     pub fs: FsNum,
@@ -21,7 +21,7 @@ pub struct OwnerSeqid {
 }
 
 /// What an owner of a client holds on a file: an open, or byte-range locks.
-#[derive(Debug, PartialEq, Eq, Drop)]
+#[derive(Drop)]
 pub struct Holding {
     pub client: u32,
     pub fs: FsNum,
@@ -36,7 +36,7 @@ pub struct Holding {
 }
 
 /// Where a client believes a file system to be.
-#[derive(Clone, Copy, Debug, PartialEq, Eq)]
+#[derive(Clone, Copy)]
 pub struct Believed {
     pub client: u32,
     pub fs: FsNum,
@@ -44,14 +44,13 @@ pub struct Believed {
 }
 
 /// An action of a client that waits for a file system on its way.
-#[derive(Debug, PartialEq, Eq, Drop)]
+#[derive(Drop)]
 pub struct InHand {
     pub client: u32,
     pub action: Action,
 }
 
 /// What all clients know.
-#[derive(Debug, Drop)]
 pub struct Clients {
     pub(crate) alloc: Global,
     /// The next seqids of open owners.
@@ -64,6 +63,20 @@ pub struct Clients {
     pub(crate) locks: Vec<Holding>,
     pub(crate) places: Vec<Believed>,
     in_hand: Vec<InHand>,
+}
+
+impl Drop for Clients {
+    fn drop(self) {
+        let Clients {
+            alloc: _,
+            seqids: _,
+            lock_seqids: _,
+            held: _,
+            locks: _,
+            places: _,
+            in_hand: _,
+        } = self;
+    }
 }
 
 impl Model for Clients {

@@ -1,6 +1,6 @@
 //! A file system: what each server has of it, and what its servers sent one another.
 ghost use Rattle.std.specs.Prelude.{◌≡◌, None, IfOk, OnOk, OnErr, option_map, []};
-ghost use Rattle.nm_rules.specs.declared.calls.Verdict.TheVariants.{Pass};
+ghost use Rattle.nm_types.specs.declared.calls.Verdict.TheVariants.{Pass};
 ghost use Rattle.nm_slot.specs.Answers.{enter_answer, apply_answer, begin_answer, freeze_answer, commit_answer, abandon_answer, abandon_ends, accept_answer, install_answer};
 ghost use Rattle.nm_slot.specs.Shown.{table_answer};
 ghost use Rattle.nm_slot.specs.SlotNow.{phase_of};
@@ -12,31 +12,39 @@ ghost use Rattle.nm_short.specs.Tables.{first_slots, slot_in, stepped, phase_in,
 
 use crate::names::show_phase;
 use crate::slots::Slots;
-use nm_rules::{Call, FsNum, HeldTable, Items, Memory, MoveNum, ServerNum};
 use nm_script::{Head, PhaseNow};
 use nm_slot::{
     Abandon, Accept, Answer, Begin, Commit, Enter, Freeze, FsPass, Image, Install, Phase,
 };
+use nm_types::{Call, FsNum, HeldTable, Items, Memory, MoveNum, ServerNum};
 use std::alloc::Global;
 use std::marker::Model;
 
 /// An offer that was sent.
-#[derive(Debug, Drop)]
 pub struct SentImage {
     pub source: ServerNum,
     pub dest: ServerNum,
     pub image: Image,
 }
 
+impl Drop for SentImage {
+    fn drop(self) {
+        let SentImage {
+            source: _,
+            dest: _,
+            image: _,
+        } = self;
+    }
+}
+
 /// The move of which word was sent that its source has handed the file system over.
-#[derive(Clone, Copy, Debug, PartialEq, Eq)]
+#[derive(Clone, Copy)]
 pub struct Handed {
     pub dest: ServerNum,
     pub number: MoveNum,
 }
 
 /// A file system.
-#[derive(Debug, Drop)]
 pub struct FileSlots {
     pub(crate) alloc: Global,
     pub(crate) first: ServerNum,
@@ -46,6 +54,19 @@ pub struct FileSlots {
     /// The latest offer that was sent.
     offer: Option<SentImage>,
     pub(crate) handed: Option<Handed>,
+}
+
+impl Drop for FileSlots {
+    fn drop(self) {
+        let FileSlots {
+            alloc: _,
+            first: _,
+            slots: _,
+            at: _,
+            offer: _,
+            handed: _,
+        } = self;
+    }
 }
 
 impl Model for FileSlots {

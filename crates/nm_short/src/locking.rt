@@ -7,16 +7,16 @@ use crate::clients::{
     Believed, Clients, Holding, OwnerSeqid, find_held, find_seqid, hold_now, move_on,
 };
 use crate::sends::{instance_of, text_of_owner};
-use nm_rules::{
+use nm_script::ClientRow;
+use nm_types::{
     Action, Bytes, Call, Deed, FsNum, LockAction, LockArgs, LockKind, LockOutcome, LockTestArgs,
     LockType, Locker, LookupArgs, Memory, OpStatus, ReleaseAction, ReleaseLockOwnerArgs, Reply,
     ReplyValue, ServerNum, StateId, StateRef, UnlockAction, UnlockArgs,
 };
-use nm_script::ClientRow;
 use std::alloc::Global;
 
 /// What came of a release of a lock owner in a file system.
-#[derive(Clone, Copy, Debug, PartialEq, Eq)]
+#[derive(Clone, Copy)]
 pub enum Freed {
     /// It was OK, or nothing is there: the next one comes.
     On,

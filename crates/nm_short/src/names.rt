@@ -3,9 +3,9 @@ ghost use Rattle.std.specs.Prelude.{◌≡◌, [], option_map, IfOk};
 ghost use Rattle.nm_short.specs.ShortRun.{server_name, fs_name, phase_shown};
 ghost use Rattle.nm_short.specs.Tables.{phase_by};
 
-use nm_rules::{Bytes, FsNum, Items, Memory, MoveNum, ServerNum};
 use nm_script::{Head, MoveNames, PhaseNow};
 use nm_slot::Phase;
+use nm_types::{Bytes, FsNum, Items, Memory, MoveNum, ServerNum};
 use std::alloc::Global;
 
 /// A server's name.

@@ -6,13 +6,13 @@ ghost use Rattle.nm_short.specs.Tables.{goes_well_to, ends_in, begin_to, begins_
 
 use crate::files::FileSlots;
 use crate::names::{fs_name, server_name};
-use nm_rules::{Cause, Items, Memory, ServerNum};
 use nm_script::{Head, HeldReport, MoveRow, MoveTold, PhaseReport, Report, ReportRow};
 use nm_slot::{Abandon, Accept, Begin, Freeze};
+use nm_types::{Cause, Items, Memory, ServerNum};
 use std::alloc::Global;
 
 /// What a line does with its file system.
-#[derive(Clone, Copy, Debug, PartialEq, Eq)]
+#[derive(Clone, Copy)]
 pub enum Order {
     Move(ServerNum),
     Freeze,
@@ -24,14 +24,14 @@ pub enum Order {
 }
 
 /// What came of a step: what is printed, and whether it came to what it was for.
-#[derive(Debug, Drop)]
+#[derive(Drop)]
 pub struct Came {
     pub row: ReportRow,
     pub well: bool,
 }
 
 /// What came of an order, row by row.
-#[derive(Debug, Drop)]
+#[derive(Drop)]
 pub struct Ordered {
     pub rows: Report,
     pub well: bool,

@@ -1,6 +1,6 @@
 //! The release of a lock owner, which goes to each file system of a server.
 ghost use Rattle.std.specs.Prelude.{◌≡◌, ◌≤◌, length, slice_get, IfOk, option_copied};
-ghost use Rattle.nm_rules.specs.Actions.{fs_of};
+ghost use Rattle.nm_types.specs.Actions.{fs_of};
 ghost use Rattle.nm_short.specs.Files.{all_freed_in};
 ghost use Rattle.nm_short.specs.Requests.{released_by, let_in, told_freed};
 ghost use Rattle.nm_short.specs.Runs.{step_to};
@@ -10,9 +10,9 @@ use crate::asks::Knocked;
 use crate::files::FileSlots;
 use crate::locking::Freed;
 use crate::run::{Run, outcome_of};
-use nm_rules::{Action, Bytes, Call, FsNum, Items, Memory, OpStatus, ServerNum};
 use nm_script::{ClientRow, Report, Told};
 use nm_slot::{Enter, FsPass};
+use nm_types::{Action, Bytes, Call, FsNum, Items, Memory, OpStatus, ServerNum};
 
 /// The owner that an action releases.
 #[tactic(auto, unfolding(crate::specs::Requests::released_by))]

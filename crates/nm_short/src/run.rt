@@ -1,6 +1,6 @@
 //! The run of a script's lines.
 ghost use Rattle.std.specs.Prelude.{◌≡◌, ◌∷◌, ◌<◌, ◌≤◌, [], Some, length, IfOk, slice_get};
-ghost use Rattle.nm_rules.specs.Actions.{fs_of};
+ghost use Rattle.nm_types.specs.Actions.{fs_of};
 ghost use Rattle.nm_script.specs.Grammar.{IsWellFormed};
 ghost use Rattle.nm_script.specs.Text.{text_of};
 ghost use Rattle.nm_short.specs.Files.{order_of};
@@ -13,20 +13,29 @@ use crate::clients::Clients;
 use crate::files::FileSlots;
 use crate::orders::{Order, single};
 use crate::releases::released_by;
-use nm_rules::{Action, Call, FsNum, Items, Memory, ServerNum};
 use nm_script::{
     ClientRow, Head, IdleRow, Line, OutcomeRow, Report, ReportRow, Script, Told, append_line_text,
 };
 use nm_slot::Phase;
+use nm_types::{Action, Call, FsNum, Items, Memory, ServerNum};
 use std::alloc::Global;
 use std::marker::Model;
 
 /// What the servers of a script have, and what its clients know.
-#[derive(Debug, Drop)]
 pub struct Run {
     pub(crate) alloc: Global,
     pub(crate) files: Vec<FileSlots>,
     pub(crate) clients: Clients,
+}
+
+impl Drop for Run {
+    fn drop(self) {
+        let Run {
+            alloc: _,
+            files: _,
+            clients: _,
+        } = self;
+    }
 }
 
 impl Model for Run {

@@ -1,17 +1,17 @@
 //! What the clients of a script send.
 ghost use Rattle.std.specs.Prelude.{◌≡◌, ◌≤◌, ◌++◌, length, codes, IfOk, option_map};
-ghost use Rattle.nm_rules.specs.Wire.{hyper};
+ghost use Rattle.nm_types.specs.Wire.{hyper};
 ghost use Rattle.nm_short.specs.Known.{seqid_of, held_of, party_of, owner_text, no_attributes, size_alone, open_call, confirm_call, close_call, downgrade_call, read_call, write_call, size_call, remove_call, mkdir_call, list_call, call_of};
 
 use crate::clients::{Clients, Holding};
 use crate::locking::{make_lookup, make_release};
-use nm_rules::{
+use nm_script::ClientRow;
+use nm_types::{
     Action, Bytes, Call, Claim, CloseAction, CloseArgs, CreateArgs, CreateType, Deed, Fattr,
     Instance, Items, Memory, OpenAction, OpenArgs, OpenConfirmArgs, OpenDowngradeArgs, OpenType,
     Opened, Principal, ReadAction, ReadArgs, ReadDirArgs, RemoveArgs, SetAttrArgs, SizeAction,
     Stable, StateRef, WriteAction, WriteArgs,
 };
-use nm_script::ClientRow;
 use std::alloc::Global;
 
 // Bytes behind others.
@@ -61,7 +61,7 @@ fn no_attributes(alloc: Global) -> Fattr
 }
 
 // The eight bytes of a size.
-#[tactic(auto, unfolding(nm_rules::specs::Wire::hyper))]
+#[tactic(auto, unfolding(nm_types::specs::Wire::hyper))]
 fn bytes_of_size(alloc: Global, size: u64) -> Result<Bytes, Memory>
     ensures { IfOk result (λ bytes. bytes ≡ hyper size) }
 {

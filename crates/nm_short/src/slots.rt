@@ -1,6 +1,6 @@
 //! What each server has of a file system.
 ghost use Rattle.std.specs.Prelude.{◌≡◌, [], None, false, map, replicate, IfOk, IfSome, option_map};
-ghost use Rattle.nm_rules.specs.declared.calls.Verdict.TheVariants.{Pass};
+ghost use Rattle.nm_types.specs.declared.calls.Verdict.TheVariants.{Pass};
 ghost use Rattle.nm_slot.specs.Answers.{enter_answer, apply_answer, begin_answer, freeze_answer, image_answer, commit_answer, abandon_answer, abandon_ends, accept_answer, install_answer, install_ends};
 ghost use Rattle.nm_slot.specs.Images.{offer_of, MayBeOffered};
 ghost use Rattle.nm_slot.specs.Shown.{table_answer};
@@ -9,19 +9,24 @@ ghost use Rattle.nm_slot.specs.SlotNow.SlotStep.{Entering, Leaving, Applying, Be
 ghost use Rattle.nm_short.specs.Slots.{view_of, slot_at, slots_after};
 ghost use Rattle.nm_short.specs.Tables.{no_part, first_slot, first_slots};
 
-use nm_rules::{Call, Epoch, FsNum, HeldTable, Memory, MoveNum, ServerNum, Verdict};
 use nm_slot::{
     Abandon, Accept, Answer, Begin, Commit, Enter, Freeze, FsPass, Image, Install, Phase, Slot,
 };
 use nm_state::FsState;
+use nm_types::{Call, Epoch, FsNum, HeldTable, Memory, MoveNum, ServerNum, Verdict};
 use std::alloc::Global;
 use std::marker::Model;
 
 /// A file system's slot at each server. A server without one had no part in it, and what is asked of it changes nothing.
-#[derive(Debug, Drop)]
 pub struct Slots {
     fs: FsNum,
     list: Vec<Slot>,
+}
+
+impl Drop for Slots {
+    fn drop(self) {
+        let Slots { fs: _, list: _ } = self;
+    }
 }
 
 impl Model for Slots {

@@ -1,7 +1,7 @@
 -- What stops a call.
 use Rattle.std.proofs.Common.{◌≡◌, ◌<◌, ◌^◌, ℕ, Bool, true, false, refl, Option, Some, None}
 use Rattle.std.specs.Prelude.{◌-◌, ◌==◌, not}
-use Rattle.nm_roll.specs.declared.answers.LeasePass.{LeasePass}
+use Rattle.nm_types.specs.declared.leases.LeasePass.{LeasePass}
 use Rattle.nm_slot.specs.declared.answers.Answer.{Answer}
 use Rattle.nm_slot.specs.declared.answers.Answer.TheVariants as answer
 use Rattle.nm_slot.specs.Answers.{is_full, ends_before}

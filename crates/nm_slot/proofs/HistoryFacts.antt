@@ -1,7 +1,7 @@
 -- The facts hold of every history.
 use Rattle.std.proofs.Common.{◌≡◌, ℕ, Bool, true, false, cond, List, [], ◌∷◌, refl, sym, subst, Some, arith}
 use Rattle.std.specs.Prelude.{◌+◌, ◌-◌}
-use Rattle.nm_rules.specs.Parties.{Party}
+use Rattle.nm_types.specs.Parties.{Party}
 use Rattle.nm_rules.specs.Past.{Past}
 use Rattle.nm_rules.specs.Seen.{Seen, seen}
 use Rattle.nm_slot.specs.declared.answers.Abandon.TheVariants as abandon

@@ -3,11 +3,11 @@ use Rattle.std.proofs.Common.{◌≡◌, ◌≤◌, ℕ, Bool, true, false, cond
 use Rattle.std.specs.Prelude.{◌==◌, ◌&&◌, ◌||◌, not, nat_le}
 use Rattle.std.specs.List.{list_all}
 use Rattle.std.proofs.lemmas.Bool.Decides.{nat_tests}
-use Rattle.nm_roll.specs.declared.answers.LeasePass.{LeasePass}
-use Rattle.nm_rules.specs.Parties.{Party}
+use Rattle.nm_types.specs.declared.leases.LeasePass.{LeasePass}
+use Rattle.nm_types.specs.Parties.{Party}
 use Rattle.nm_rules.specs.Seen.{Seen}
-use Rattle.nm_rules.specs.declared.calls.Call.{Call}
-use Rattle.nm_rules.specs.declared.calls.Verdict.{Verdict}
+use Rattle.nm_types.specs.declared.calls.Call.{Call}
+use Rattle.nm_types.specs.declared.calls.Verdict.{Verdict}
 use Rattle.nm_slot.specs.declared.answers.Accept.TheVariants as accept
 use Rattle.nm_slot.specs.declared.answers.Answer.{Answer}
 use Rattle.nm_slot.specs.declared.answers.Answer.TheVariants as answer

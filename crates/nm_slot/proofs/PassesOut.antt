@@ -3,8 +3,8 @@
 use Rattle.std.proofs.Common.{◌≡◌, ◌≢◌, ℕ, Bool, true, false, cond, List, [], ◌∷◌, length, refl, sym, subst, ap, ◌∙◌, Option, Some, None, arith, eqb-true, eq-eqb}
 use Rattle.std.specs.Prelude.{◌-◌, ◌==◌, ◌^◌, ◌&&◌, ◌||◌, nat_le}
 use Rattle.std.specs.List.{list_all, list_any}
-use Rattle.nm_roll.specs.declared.answers.LeasePass.{LeasePass}
-use Rattle.nm_rules.specs.Parties.{Party}
+use Rattle.nm_types.specs.declared.leases.LeasePass.{LeasePass}
+use Rattle.nm_types.specs.Parties.{Party}
 use Rattle.nm_rules.specs.Seen.{Seen}
 use Rattle.nm_slot.specs.declared.answers.Abandon.TheVariants as abandon
 use Rattle.nm_slot.specs.declared.answers.Accept.TheVariants as accept

@@ -6,16 +6,16 @@ use Rattle.nm_rules.specs.Past.{words}
 use Rattle.nm_rules.specs.Seqids.{owners_after}
 use Rattle.nm_rules.specs.Shares.{opens_after}
 use Rattle.nm_rules.specs.Seen.{Seen, after, after_words}
-use Rattle.nm_rules.specs.declared.calls.Event.{Event}
-use Rattle.nm_rules.specs.declared.calls.Reply.{Reply}
+use Rattle.nm_types.specs.declared.calls.Event.{Event}
+use Rattle.nm_types.specs.declared.calls.Reply.{Reply}
 use Rattle.nm_rules.proofs.HolderLaws.{rows_grow}
-use Rattle.nm_rules.specs.Parties.{Party, same_party}
-use Rattle.nm_rules.specs.declared.owners.OwnerRow.{OwnerRow}
-use Rattle.nm_rules.specs.declared.rows.OpenRow.{OpenRow}
-use Rattle.nm_roll.specs.declared.answers.LeasePass.{LeasePass}
-use Rattle.nm_rules.specs.declared.calls.Call.{Call}
-use Rattle.nm_rules.specs.declared.calls.Verdict.{Verdict}
-use Rattle.nm_rules.specs.declared.calls.Event.TheVariants.{Asked, Ended}
+use Rattle.nm_types.specs.Parties.{Party, same_party}
+use Rattle.nm_types.specs.declared.owners.OwnerRow.{OwnerRow}
+use Rattle.nm_types.specs.declared.rows.OpenRow.{OpenRow}
+use Rattle.nm_types.specs.declared.leases.LeasePass.{LeasePass}
+use Rattle.nm_types.specs.declared.calls.Call.{Call}
+use Rattle.nm_types.specs.declared.calls.Verdict.{Verdict}
+use Rattle.nm_types.specs.declared.calls.Event.TheVariants.{Asked, Ended}
 use Rattle.nm_slot.specs.Answers.{applied, is_offer_of, ends_before, ends_abandoned, abandon_ends}
 use Rattle.nm_slot.specs.Changes.{slot_after, stage_ended}
 use Rattle.nm_slot.specs.Eras.{after_ends, ends_late, has_ended, row_of}

@@ -1,6 +1,6 @@
 -- An offer that is held, or comes again, keeps the facts.
 use Rattle.std.proofs.Common.{◌≡◌, ◌≢◌, ◌<◌, ◌≤◌, ℕ, true, false, refl, sym, subst, ap, ◌∙◌, List, Some, None, arith}
-use Rattle.nm_roll.specs.declared.answers.LeasePass.{LeasePass}
+use Rattle.nm_types.specs.declared.leases.LeasePass.{LeasePass}
 use Rattle.nm_rules.specs.Seen.{Seen}
 use Rattle.nm_slot.specs.Moves.{Move, Fate}
 use Rattle.nm_slot.specs.Moves.Fate.{UnderWay, Handed}

@@ -1,7 +1,7 @@
 -- What a destination is told of a move that is over keeps the facts.
 use Rattle.std.proofs.Common.{◌≡◌, ◌≢◌, ◌≤◌, ℕ, Bool, true, false, List, refl, sym, subst, ap, ◌∙◌, Option, Some, arith, eqb-true}
 use Rattle.std.specs.Prelude.{max}
-use Rattle.nm_rules.specs.Parties.{Party}
+use Rattle.nm_types.specs.Parties.{Party}
 use Rattle.nm_rules.specs.Seen.{Seen}
 use Rattle.nm_slot.specs.Answers.{is_offer_of}
 use Rattle.nm_slot.specs.Changes.{own_withdrawn, own_installed}

@@ -1,16 +1,16 @@
 -- What each call on a file system at a server answers, by what the server has of it.
 use Rattle.std.specs.Prelude.{◌==◌, ◌||◌, ◌&&◌, not, nat_le, nat_lt, ℕ, ◌+◌, ◌-◌, ◌^◌, Bool, true, false, List, [], length, Option, Some, None, Result, Err, if◌then◌else◌}
-use Rattle.nm_roll.specs.declared.answers.LeasePass.{LeasePass}
+use Rattle.nm_types.specs.declared.leases.LeasePass.{LeasePass}
 use Rattle.nm_rules.specs.Answer.{answer_to}
 use Rattle.nm_rules.specs.Holders.{holders, has_row}
-use Rattle.nm_rules.specs.Parties.{Party}
+use Rattle.nm_types.specs.Parties.{Party}
 use Rattle.nm_rules.specs.Seen.{Seen}
-use Rattle.nm_rules.specs.declared.calls.Call.{Call}
-use Rattle.nm_rules.specs.declared.calls.Event.TheVariants.{Asked}
-use Rattle.nm_rules.specs.declared.calls.StateId.{StateId}
-use Rattle.nm_rules.specs.declared.calls.Verdict.{Verdict}
-use Rattle.nm_rules.specs.declared.status.OpStatus.{OpStatus}
-use Rattle.nm_rules.specs.declared.status.OpStatus.TheVariants.{BadStateId}
+use Rattle.nm_types.specs.declared.calls.Call.{Call}
+use Rattle.nm_types.specs.declared.calls.Event.TheVariants.{Asked}
+use Rattle.nm_types.specs.declared.calls.StateId.{StateId}
+use Rattle.nm_types.specs.declared.calls.Verdict.{Verdict}
+use Rattle.nm_types.specs.declared.status.OpStatus.{OpStatus}
+use Rattle.nm_types.specs.declared.status.OpStatus.TheVariants.{BadStateId}
 use Rattle.nm_state.specs.State.{holder_of}
 use Rattle.nm_slot.specs.declared.answers.Abandon.{Abandon}
 use Rattle.nm_slot.specs.declared.answers.Abandon.TheVariants as abandon

@@ -2,12 +2,12 @@
 -- client an era, a later record a greater one. What an instance has here is of one era: a call of an earlier one, or of one that
 -- has ended, comes too late, and the first call of a later one begins anew.
 use Rattle.std.specs.Prelude.{ℕ, Bool, true, false, ◌==◌, ◌&&◌, ◌||◌, nat_lt, nat_le, not, max, List, [], ◌∷◌, ◌++◌, Option, Some, None, find, filter, if◌then◌else◌}
-use Rattle.nm_roll.specs.declared.answers.LeasePass.{LeasePass}
+use Rattle.nm_types.specs.declared.leases.LeasePass.{LeasePass}
 use Rattle.nm_rules.specs.Answer.{answer_to}
 use Rattle.nm_rules.specs.Holders.{holders}
-use Rattle.nm_rules.specs.Parties.{Party, same_party}
+use Rattle.nm_types.specs.Parties.{Party, same_party}
 use Rattle.nm_rules.specs.Seen.{Seen, after}
-use Rattle.nm_rules.specs.declared.calls.Event.TheVariants.{Ended}
+use Rattle.nm_types.specs.declared.calls.Event.TheVariants.{Ended}
 use Rattle.nm_slot.specs.declared.eras.EraRow.{EraRow}
 
 -- ---- what is known of an instance

@@ -5,11 +5,11 @@ use Rattle.std.specs.List.{list_any}
 use Rattle.nm_rules.specs.Answer.{reply_with}
 use Rattle.nm_rules.specs.Past.{Past}
 use Rattle.nm_rules.specs.Seen.{Seen, seen}
-use Rattle.nm_rules.specs.Parties.{Party}
-use Rattle.nm_rules.specs.declared.calls.Entry.{Entry}
-use Rattle.nm_rules.specs.declared.calls.Event.TheVariants.{Asked, Ended}
-use Rattle.nm_rules.specs.declared.calls.ReplyValue.TheVariants as told
-use Rattle.nm_rules.specs.declared.status.OpStatus.TheVariants.{Nfs4Ok}
+use Rattle.nm_types.specs.Parties.{Party}
+use Rattle.nm_types.specs.declared.calls.Entry.{Entry}
+use Rattle.nm_types.specs.declared.calls.Event.TheVariants.{Asked, Ended}
+use Rattle.nm_types.specs.declared.calls.ReplyValue.TheVariants as told
+use Rattle.nm_types.specs.declared.status.OpStatus.TheVariants.{Nfs4Ok}
 use Rattle.nm_slot.specs.declared.answers.Abandon.TheVariants as abandon
 use Rattle.nm_slot.specs.declared.answers.Answer.TheVariants as answer
 use Rattle.nm_slot.specs.declared.answers.Enter.TheVariants as enter

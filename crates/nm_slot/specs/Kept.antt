@@ -1,15 +1,15 @@
 -- What a slot keeps, and what contracts see of it.
 use Rattle.std.specs.Prelude.{◌≡◌, ◌≤◌, ◌<◌, ◌^◌, ◌+◌, ◌-◌, ◌⊎◌, ℕ, Bool, true, false, List, [], Option, Some, None, length, option_map}
-use Rattle.nm_roll.specs.declared.answers.LeasePass.{LeasePass}
-use Rattle.nm_rules.specs.Parties.{Party}
+use Rattle.nm_types.specs.declared.leases.LeasePass.{LeasePass}
+use Rattle.nm_types.specs.Parties.{Party}
 use Rattle.nm_rules.specs.Answer.{answer_to}
 use Rattle.nm_rules.specs.Holders.{holders}
 use Rattle.nm_rules.specs.Seen.{Seen}
-use Rattle.nm_rules.specs.declared.calls.Call.{Call}
-use Rattle.nm_rules.specs.declared.calls.Event.{Event}
-use Rattle.nm_rules.specs.declared.calls.Event.TheVariants.{Asked}
-use Rattle.nm_rules.specs.declared.calls.Reply.{Reply}
-use Rattle.nm_rules.specs.declared.calls.Verdict.{Verdict}
+use Rattle.nm_types.specs.declared.calls.Call.{Call}
+use Rattle.nm_types.specs.declared.calls.Event.{Event}
+use Rattle.nm_types.specs.declared.calls.Event.TheVariants.{Asked}
+use Rattle.nm_types.specs.declared.calls.Reply.{Reply}
+use Rattle.nm_types.specs.declared.calls.Verdict.{Verdict}
 use Rattle.nm_state.specs.State.{StateNow}
 use Rattle.nm_slot.specs.declared.answers.Abandon.{Abandon}
 use Rattle.nm_slot.specs.declared.answers.Abandon.TheVariants as abandon

@@ -1,7 +1,7 @@
 -- What is held in a file system at a server, as it is shown.
 use Rattle.std.specs.Prelude.{List, Option, Some, None}
 use Rattle.nm_rules.specs.Held.{held_table}
-use Rattle.nm_rules.specs.declared.table.HeldRow.{HeldRow}
+use Rattle.nm_types.specs.declared.table.HeldRow.{HeldRow}
 use Rattle.nm_slot.specs.SlotNow.{Stage, Offer, Own, SlotView}
 use Rattle.nm_slot.specs.SlotNow.Stage.{Away, Here}
 

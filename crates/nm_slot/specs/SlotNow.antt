@@ -1,10 +1,10 @@
 -- A file system at one server: what the server has of it.
 use Rattle.std.specs.Prelude.{ℕ, Bool, List, [], Option, Some, None}
-use Rattle.nm_roll.specs.declared.answers.LeasePass.{LeasePass}
-use Rattle.nm_rules.specs.Parties.{Party}
+use Rattle.nm_types.specs.declared.leases.LeasePass.{LeasePass}
+use Rattle.nm_types.specs.Parties.{Party}
 use Rattle.nm_rules.specs.Seen.{Seen}
-use Rattle.nm_rules.specs.declared.calls.Call.{Call}
-use Rattle.nm_rules.specs.declared.calls.Verdict.{Verdict}
+use Rattle.nm_types.specs.declared.calls.Call.{Call}
+use Rattle.nm_types.specs.declared.calls.Verdict.{Verdict}
 use Rattle.nm_slot.specs.declared.answers.Abandon.{Abandon}
 use Rattle.nm_slot.specs.declared.answers.Accept.{Accept}
 use Rattle.nm_slot.specs.declared.answers.Answer.{Answer}

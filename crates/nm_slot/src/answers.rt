@@ -1,9 +1,9 @@
 //! What the calls on a slot answer.
 use crate::FsPass;
-use nm_rules::{Epoch, Era, Instance, MoveNum, Reply, ServerNum};
+use nm_types::{Epoch, Era, Instance, MoveNum, Reply, ServerNum};
 
 /// What the door of a file system answers to one who wants to call.
-#[derive(Debug, Drop)]
+#[derive(Drop)]
 pub enum Enter {
     /// It is served: with this pass calls may be made.
     Entered(FsPass),
@@ -18,7 +18,7 @@ pub enum Enter {
 }
 
 /// What came of a call.
-#[derive(Debug, Drop)]
+#[derive(Drop)]
 pub enum Answer {
     /// It is the entry of that place, from 1 on over all epochs, with that reply.
     Done {
@@ -42,7 +42,7 @@ pub enum Answer {
 }
 
 /// What came of the end of an instance's era.
-#[derive(Clone, Copy, Debug, PartialEq, Eq)]
+#[derive(Clone, Copy, Debug)]
 pub enum Swept {
     /// What the instance had here has ended.
     Ended,
@@ -55,7 +55,7 @@ pub enum Swept {
 }
 
 /// What came of beginning a move.
-#[derive(Clone, Copy, Debug, PartialEq, Eq)]
+#[derive(Clone, Copy, Debug)]
 pub enum Begin {
     /// The move of that number is under way.
     Begun(MoveNum),
@@ -70,7 +70,7 @@ pub enum Begin {
 }
 
 /// What came of freezing a file system for its move.
-#[derive(Clone, Copy, Debug, PartialEq, Eq)]
+#[derive(Clone, Copy, Debug)]
 pub enum Freeze {
     /// It is frozen for the move of that number.
     Frozen(MoveNum),
@@ -81,7 +81,7 @@ pub enum Freeze {
 }
 
 /// What came of handing the file system over.
-#[derive(Debug, Drop)]
+#[derive(Drop)]
 pub enum Commit {
     /// It is gone: the instances that hold something in it, in order of string, verifier, flavor and uid.
     Committed(Vec<Instance>),
@@ -92,7 +92,7 @@ pub enum Commit {
 }
 
 /// What came of giving a move up.
-#[derive(Clone, Copy, Debug, PartialEq, Eq)]
+#[derive(Clone, Copy, Debug)]
 pub enum Abandon {
     /// The file system is served here again; that move is over.
     Back(MoveNum),
@@ -103,7 +103,7 @@ pub enum Abandon {
 }
 
 /// What came of an offer.
-#[derive(Clone, Copy, Debug, PartialEq, Eq)]
+#[derive(Clone, Copy, Debug)]
 pub enum Accept {
     /// It is held.
     Held,
@@ -114,7 +114,7 @@ pub enum Accept {
 }
 
 /// What came of installing an offer.
-#[derive(Clone, Copy, Debug, PartialEq, Eq)]
+#[derive(Clone, Copy, Debug)]
 pub enum Install {
     /// The file system is served here.
     Now,

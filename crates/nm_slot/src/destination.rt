@@ -13,9 +13,8 @@ ghost use Rattle.nm_slot.specs.declared.answers.Accept.TheVariants.{Held as Held
 use crate::eras::{EraRow, keep_swept, note_all};
 use crate::stage::{Doing, Stage, end_all, list_holders};
 use crate::{Accept, Image, Install, Slot};
-use nm_roll::LeasePass;
-use nm_rules::{Instance, Memory, MoveNum};
 use nm_state::FsState;
+use nm_types::{Instance, LeasePass, Memory, MoveNum};
 use std::mem;
 
 // The greater one.
@@ -153,14 +152,15 @@ impl Slot {
     {
         match self.stage.take_offer(number) {
             Some(image) => {
-                let mut state = image.state;
+                let (epoch, count) = (image.epoch, image.count);
+                let mut state = image.into_state();
                 let room = mem::replace(&mut self.room, Vec::new(self.alloc));
                 let mut ended = end_brought(&mut state, room, &self.brought, &self.eras);
                 note_all(&mut self.eras, &self.brought);
                 self.brought.clear();
                 self.installed = number;
-                self.epoch = image.epoch;
-                self.count = image.count + ended.len() as u64;
+                self.epoch = epoch;
+                self.count = count + ended.len() as u64;
                 ended.clear();
                 self.room = ended;
                 self.stage = Stage::Here {

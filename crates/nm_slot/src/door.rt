@@ -1,7 +1,7 @@
 //! The door of a file system at a server: passes, and the calls that are made with them.
 ghost use Rattle.std.specs.Prelude.{◌≡◌, ◌==◌, ◌≤◌, ◌<◌, ◌^◌, ◌+◌, ◌-◌, not, ℕ, true, false, IfOk, OnOk, OnErr, length, option_map, option_copied};
 ghost use Rattle.std.specs.Vec.{vec_capacity};
-ghost use Rattle.nm_rules.specs.declared.calls.Event.TheVariants.{Asked};
+ghost use Rattle.nm_types.specs.declared.calls.Event.TheVariants.{Asked};
 ghost use Rattle.nm_slot.specs.Answers.{enter_answer, apply_answer, apply_ends, resolve_answer, turned_away, let_in, is_full, ends_before};
 ghost use Rattle.nm_slot.specs.Changes.{slot_after, stage_ended};
 ghost use Rattle.nm_slot.specs.Eras.{is_late, era_seen, noted_lease};
@@ -14,8 +14,7 @@ ghost use Rattle.nm_slot.specs.declared.answers.Answer.TheVariants.{Strayed};
 use crate::eras::{EraRow, era_seen, is_late, note_lease, reserve, row_of};
 use crate::stage::{Doing, Left, Stage};
 use crate::{Answer, Enter, FsPass, Image, Slot};
-use nm_roll::LeasePass;
-use nm_rules::{Call, Era, Event, Instance, Memory, OpStatus, Reply, StateId, Verdict};
+use nm_types::{Call, Era, Event, Instance, LeasePass, Memory, OpStatus, Reply, StateId, Verdict};
 
 /// As many passes may be out.
 const MOST_PASSES: u64 = 1 << 63;

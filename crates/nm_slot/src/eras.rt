@@ -3,11 +3,10 @@ ghost use Rattle.std.specs.Prelude.{◌≡◌, ◌≤◌, ◌+◌, not, OnOk, On
 ghost use Rattle.std.specs.Vec.{vec_capacity};
 ghost use Rattle.nm_slot.specs.Eras.{is_of, row_of, put_row, later_era, is_swept_from, has_ended, comes_late, is_late, era_seen, noted, noted_lease, noted_all, marked, era_in};
 
-use nm_roll::LeasePass;
-use nm_rules::{Era, Instance, Memory};
+use nm_types::{Era, Instance, LeasePass, Memory};
 
 /// What a server knows of the eras of an instance in a file system.
-#[derive(Clone, Copy, Debug, PartialEq, Eq)]
+#[derive(Clone, Copy)]
 pub struct EraRow {
     pub instance: Instance,
     /// The greatest era in which it was seen.

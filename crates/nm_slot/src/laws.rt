@@ -3,7 +3,7 @@
 ghost use Rattle.std.specs.Prelude.{◌≡◌, ◌≢◌, ◌↔◌, ℕ, true, false, List, ◌∷◌, Some};
 ghost use Rattle.nm_rules.specs.Answer.{IsLegal};
 ghost use Rattle.nm_rules.specs.Holders.{holders};
-ghost use Rattle.nm_rules.specs.Parties.{Party};
+ghost use Rattle.nm_types.specs.Parties.{Party};
 ghost use Rattle.nm_slot.specs.Answers.{is_at_end, install_ends};
 ghost use Rattle.nm_slot.specs.SlotNow.{phase_of, SlotStep};
 ghost use Rattle.nm_slot.specs.SlotNow.HandedOver.{Committed};
@@ -11,10 +11,10 @@ ghost use Rattle.nm_slot.specs.SlotNow.SlotStep.{Entering, Applying, Committing,
 ghost use Rattle.nm_slot.specs.Changes.{slot_after};
 ghost use Rattle.nm_slot.specs.Door.{door_answer};
 ghost use Rattle.nm_slot.specs.History.{Home, IsHistory, slot_now, own_now, entries_now, tables_now};
-ghost use Rattle.nm_roll.specs.declared.answers.LeasePass.{LeasePass};
-ghost use Rattle.nm_rules.specs.declared.calls.Call.{Call};
-ghost use Rattle.nm_rules.specs.declared.calls.Reply.{Reply};
-ghost use Rattle.nm_rules.specs.declared.calls.Verdict.{Verdict};
+ghost use Rattle.nm_types.specs.declared.leases.LeasePass.{LeasePass};
+ghost use Rattle.nm_types.specs.declared.calls.Call.{Call};
+ghost use Rattle.nm_types.specs.declared.calls.Reply.{Reply};
+ghost use Rattle.nm_types.specs.declared.calls.Verdict.{Verdict};
 ghost use Rattle.nm_slot.specs.EraReadings.{seen_at, ended_at, IsTimely};
 ghost use Rattle.nm_slot.specs.Eras.{row_of};
 ghost use Rattle.nm_slot.specs.declared.answers.Answer.TheVariants.{Done};

@@ -1,12 +1,12 @@
 //! Passes: leave to make calls on a file system.
 ghost use Rattle.std.specs.Prelude.{◌≡◌};
 
-use nm_rules::{Epoch, FsNum};
+use nm_types::{Epoch, FsNum};
 use std::marker::Model;
 
 /// Leave to make calls on a file system in one of its epochs. `Slot::enter` alone makes one, it is never copied, and
 /// `Slot::leave` takes it. One that is dropped stays out, and the file system waits for it in vain.
-#[derive(Debug, Drop)]
+#[derive(Drop)]
 pub struct FsPass {
     pub(crate) fs: FsNum,
     pub(crate) epoch: Epoch,

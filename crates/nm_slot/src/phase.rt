@@ -1,5 +1,5 @@
 //! What a server does with a file system.
-use nm_rules::{Epoch, MoveNum, ServerNum};
+use nm_types::{Epoch, MoveNum, ServerNum};
 
 /// What a server does with a file system.
 ///
@@ -16,7 +16,7 @@ use nm_rules::{Epoch, MoveNum, ServerNum};
 ///                      '--------------------------'
 ///                                withdraw
 /// ```
-#[derive(Clone, Copy, Debug, PartialEq, Eq)]
+#[derive(Clone, Copy, Debug)]
 pub enum Phase {
     /// It never had the file system.
     Never,

@@ -8,15 +8,13 @@ ghost use Rattle.nm_slot.specs.SlotNow.{phase_of, phase_away, phase_here};
 use crate::eras::EraRow;
 use crate::stage::{Doing, Left, Stage};
 use crate::{Image, Phase};
-use nm_roll::LeasePass;
-use nm_rules::{Epoch, FsNum, HeldTable, Instance, Memory, MoveNum};
 use nm_state::FsState;
+use nm_types::{Epoch, FsNum, HeldTable, Instance, LeasePass, Memory, MoveNum};
 use std::alloc::Global;
 use std::marker::Model;
 
 /// A file system at one server: its state where this server has it, or an offer of it, and what the server remembers of
 /// the moves so far.
-#[derive(Debug, Drop)]
 pub struct Slot {
     pub(crate) alloc: Global,
     pub(crate) fs: FsNum,
@@ -33,6 +31,25 @@ pub struct Slot {
     pub(crate) eras: Vec<EraRow>,
     /// The leases that came with the offer.
     pub(crate) brought: Vec<LeasePass>,
+}
+
+impl Drop for Slot {
+    fn drop(self) {
+        let Slot {
+            alloc: _,
+            fs: _,
+            stage: _,
+            left: _,
+            known: _,
+            installed: _,
+            epoch: _,
+            count: _,
+            passes: _,
+            room: _,
+            eras: _,
+            brought: _,
+        } = self;
+    }
 }
 
 impl Model for Slot {

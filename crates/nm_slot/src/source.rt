@@ -10,7 +10,7 @@ ghost use Rattle.nm_slot.specs.SlotNow.SlotStep.{Beginning, Freezing, Committing
 
 use crate::stage::{Doing, Left, Stage};
 use crate::{Abandon, Begin, Commit, Freeze, Image, Slot};
-use nm_rules::{Epoch, Instance, Memory, MoveNum, ServerNum};
+use nm_types::{Epoch, Instance, Memory, MoveNum, ServerNum};
 use std::mem;
 
 /// Move numbers, epochs and counts of entries end here.

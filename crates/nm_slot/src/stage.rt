@@ -1,8 +1,8 @@
 //! Whether the state of a file system is at a server, and what the server does with it.
 ghost use Rattle.std.specs.Prelude.{[], Option, ◌≡◌, ◌≤◌, ◌+◌, ℕ, None, true, false, length, option_map, IfOk, OnOk, OnErr};
 ghost use Rattle.std.specs.Vec.{vec_capacity};
-ghost use Rattle.nm_rules.specs.declared.calls.Event.TheVariants.{Asked};
-ghost use Rattle.nm_slot.specs.Answers.{frozen, abandoned, abandoned_away, ends_abandoned, has_here};
+ghost use Rattle.nm_types.specs.declared.calls.Event.TheVariants.{Asked};
+ghost use Rattle.nm_slot.specs.Answers.{frozen, abandoned, abandoned_away, ends_abandoned, has_here, is_offer_of};
 ghost use Rattle.nm_slot.specs.Changes.{with_doing, stage_after, stage_back, stage_called, stage_ended};
 ghost use Rattle.nm_slot.specs.Eras.{one_if, after_ends};
 ghost use Rattle.nm_slot.specs.Images.{offer_of};
@@ -15,13 +15,13 @@ ghost use Rattle.nm_slot.specs.SlotNow.SlotStep.{Freezing};
 
 use crate::eras::{EraRow, keep_ended};
 use crate::{Abandon, Freeze, Image};
-use nm_rules::{Event, Instance, Memory, MoveNum, Reply, ServerNum};
 use nm_state::FsState;
+use nm_types::{Event, Instance, Memory, MoveNum, Reply, ServerNum};
 use std::marker::Model;
 use std::mem;
 
 /// Where a file system went, and by which move.
-#[derive(Clone, Copy, Debug)]
+#[derive(Clone, Copy)]
 pub(crate) struct Left {
     pub(crate) dest: ServerNum,
     pub(crate) number: MoveNum,
@@ -38,7 +38,7 @@ impl Model for Left {
 }
 
 /// What the server that has the state does with it.
-#[derive(Clone, Copy, Debug)]
+#[derive(Clone, Copy)]
 pub(crate) enum Doing {
     /// It serves it.
     Serves,
@@ -121,11 +121,29 @@ pub(crate) fn end_all(state: &mut FsState, instances: &[Instance])
     }
 }
 
+// Whether the offer of that move is held.
+fn is_numbered(held: &Option<Image>, number: MoveNum) -> bool
+    ensures { result ≡ is_offer_of number (option_map offer_of held.now) }
+{
+    match held {
+        Some(image) => image.number == number,
+        None => false,
+    }
+}
+
 /// Whether the state is here. Where it isn't, an offer may be held.
-#[derive(Debug, Drop)]
 pub(crate) enum Stage {
     Away(Option<Image>),
     Here { doing: Doing, state: FsState },
+}
+
+impl Drop for Stage {
+    fn drop(self) {
+        match self {
+            Stage::Away(_) => {}
+            Stage::Here { doing: _, state: _ } => {}
+        }
+    }
 }
 
 impl Stage {
@@ -291,21 +309,14 @@ impl Stage {
     pub(crate) fn take_offer(&mut self, number: MoveNum) -> Option<Image>
         ensures { Took number self.old result self.new }
     {
-        match mem::replace(self, Stage::Away(None)) {
-            Stage::Away(held) => match held {
-                Some(image) => {
-                    if image.number == number {
-                        return Some(image);
-                    }
-                    *self = Stage::Away(Some(image));
-                    None
+        match self {
+            Stage::Away(held) => {
+                if !is_numbered(held, number) {
+                    return None;
                 }
-                None => None,
-            },
-            stage => {
-                *self = stage;
-                None
+                mem::replace(held, None)
             }
+            Stage::Here { .. } => None,
         }
     }
 

@@ -10,8 +10,7 @@ ghost use Rattle.nm_slot.specs.SlotNow.SlotStep.{Sweeping};
 use crate::eras::{mark, reserve, row_of};
 use crate::stage::{Doing, Stage};
 use crate::{Image, Slot, Swept};
-use nm_roll::Ended;
-use nm_rules::{Instance, Memory};
+use nm_types::{Ended, Instance, Memory};
 
 // What the end of rows in a state that isn't served is answered, by whether there are any.
 fn put_off_if(has: bool) -> Swept

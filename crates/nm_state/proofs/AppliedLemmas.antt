@@ -6,23 +6,23 @@ use Rattle.nm_rules.specs.Contents.TreeWord.{Made, Removed}
 use Rattle.nm_rules.specs.Data.{mode_checks, set_limit, setattr_checks, setattr_value, size_checks, write_checks, write_limit, write_value}
 use Rattle.nm_rules.specs.LockRows.{locks_after, ranges_after}
 use Rattle.nm_rules.specs.Files.{changed_dir, changes_past_end, create_checks, create_value, current, makes_past_end, remove_checks}
-use Rattle.nm_rules.specs.Parties.{Party}
+use Rattle.nm_types.specs.Parties.{Party}
 use Rattle.nm_rules.specs.Past.{new_directory, seqid_owner, set_tree, write_tree}
 use Rattle.nm_rules.specs.Seen.{Seen, look, after_words}
 use Rattle.nm_rules.specs.Seqids.{closed_after, owners_after}
 use Rattle.nm_rules.specs.Shares.{opens_after}
 use Rattle.nm_rules.specs.Answer.{reply_with}
-use Rattle.nm_rules.specs.declared.args.CreateArgs.{CreateArgs}
-use Rattle.nm_rules.specs.declared.args.RemoveArgs.{RemoveArgs}
-use Rattle.nm_rules.specs.declared.args.SetAttrArgs.{SetAttrArgs}
-use Rattle.nm_rules.specs.declared.args.WriteArgs.{WriteArgs}
-use Rattle.nm_rules.specs.declared.calls.Deed.TheVariants as deed
-use Rattle.nm_rules.specs.declared.calls.Event.TheVariants.{Asked}
-use Rattle.nm_rules.specs.declared.calls.ReplyValue.TheVariants as told
-use Rattle.nm_rules.specs.declared.calls.Verdict.{Verdict}
-use Rattle.nm_rules.specs.declared.results.Created.{Created}
-use Rattle.nm_rules.specs.declared.status.OpStatus.{OpStatus}
-use Rattle.nm_rules.specs.declared.status.OpStatus.TheVariants.{Nfs4Ok, Resource}
+use Rattle.nm_types.specs.declared.args.CreateArgs.{CreateArgs}
+use Rattle.nm_types.specs.declared.args.RemoveArgs.{RemoveArgs}
+use Rattle.nm_types.specs.declared.args.SetAttrArgs.{SetAttrArgs}
+use Rattle.nm_types.specs.declared.args.WriteArgs.{WriteArgs}
+use Rattle.nm_types.specs.declared.calls.Deed.TheVariants as deed
+use Rattle.nm_types.specs.declared.calls.Event.TheVariants.{Asked}
+use Rattle.nm_types.specs.declared.calls.ReplyValue.TheVariants as told
+use Rattle.nm_types.specs.declared.calls.Verdict.{Verdict}
+use Rattle.nm_types.specs.declared.results.Created.{Created}
+use Rattle.nm_types.specs.declared.status.OpStatus.{OpStatus}
+use Rattle.nm_types.specs.declared.status.OpStatus.TheVariants.{Nfs4Ok, Resource}
 use Rattle.nm_rules.proofs.Classes.{all_free, refuse_if-none}
 use Rattle.nm_state.proofs.OpeningLemmas.{applied}
 use Rattle.nm_state.specs.Opening.{Applied, after_word}

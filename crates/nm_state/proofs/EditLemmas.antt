@@ -8,9 +8,9 @@ use Rattle.nm_rules.specs.Data.{set_limit, write_limit, written_size}
 use Rattle.nm_rules.specs.Files.{changes_past_end, current, fills_up, makes_past_end, size_of, sized_limit}
 use Rattle.nm_rules.specs.Lists.{is_empty}
 use Rattle.nm_rules.specs.Seen.{Seen}
-use Rattle.nm_rules.specs.declared.args.WriteArgs.{WriteArgs}
-use Rattle.nm_rules.specs.declared.rows.FileRow.{FileRow}
-use Rattle.nm_rules.specs.declared.status.OpStatus.TheVariants.{FBig, NoSpc, Resource}
+use Rattle.nm_types.specs.declared.args.WriteArgs.{WriteArgs}
+use Rattle.nm_types.specs.declared.rows.FileRow.{FileRow}
+use Rattle.nm_types.specs.declared.status.OpStatus.TheVariants.{FBig, NoSpc, Resource}
 use Rattle.nm_rules.proofs.Classes.{or_none, refuse_if-none}
 use Rattle.nm_tree.specs.Rows.{total_with}
 

@@ -5,10 +5,10 @@ use Rattle.std.proofs.lemmas.List.{drop_more}
 use Rattle.std.specs.Prelude.{slice_index_or}
 use Rattle.std.specs.List.Sorted.{IsSearchInRange, IsBinarySearchResult}
 use Rattle.std.specs.Result.{result_err}
-use Rattle.nm_rules.specs.Parties.{Party, party_cmp}
+use Rattle.nm_types.specs.Parties.{Party, party_cmp}
 use Rattle.nm_rules.specs.Holders.{gathered, known_of, opener_of, parties_rise, put_party}
-use Rattle.nm_rules.specs.declared.owners.OwnerRow.{OwnerRow}
-use Rattle.nm_rules.specs.declared.rows.OpenRow.{OpenRow}
+use Rattle.nm_types.specs.declared.owners.OwnerRow.{OwnerRow}
+use Rattle.nm_types.specs.declared.rows.OpenRow.{OpenRow}
 use Rattle.nm_rules.proofs.HolderLaws.{put_by_search, length-put, parties_rise-gathered}
 use Rattle.nm_state.specs.Listing.{put_at}
 

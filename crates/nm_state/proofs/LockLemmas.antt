@@ -12,36 +12,36 @@ use Rattle.nm_rules.specs.LockAsks.{access_for, counter_of, is_no_range, kind_of
 use Rattle.nm_rules.specs.LockOps.{changed_lock, denied_stop, denied_told, in_the_way, lock_checks, lock_denied, lock_fault, locked_stateid, locker_counter, new_limit, next_lock_stateid, ranges_with, release_checks, rows_stop, rows_with_known, test_barrier, test_checks, test_denied, unlock_checks}
 use Rattle.nm_rules.specs.LockRows.{claim_if, clear_if, lock_at, ranges_on, renewed_lock}
 use Rattle.nm_rules.specs.Locks.{barrier}
-use Rattle.nm_rules.specs.Parties.{Party}
+use Rattle.nm_types.specs.Parties.{Party}
 use Rattle.nm_rules.specs.Past.{closed_by, seqid_owner, started_by}
 use Rattle.nm_rules.specs.Seen.{Seen, after_words, look}
 use Rattle.nm_rules.specs.Seqids.{closed_after, owners_after}
 use Rattle.nm_rules.specs.Seqids.OwnerWord.{Gone, Stays}
 use Rattle.nm_rules.specs.Shares.{opens_after}
 use Rattle.nm_rules.specs.Stateids.{given_seqid, is_owner_confirmed, live_stop, lock_live_stop, lock_named, lock_stop, mode_stop, open_named, opened_access, seqid_stop, stateid_stop}
-use Rattle.nm_rules.specs.declared.args.LockArgs.{LockArgs}
-use Rattle.nm_rules.specs.declared.args.LockTestArgs.{LockTestArgs}
-use Rattle.nm_rules.specs.declared.args.Locker.TheVariants.{Known}
-use Rattle.nm_rules.specs.declared.args.ReleaseLockOwnerArgs.{ReleaseLockOwnerArgs}
-use Rattle.nm_rules.specs.declared.args.UnlockArgs.{UnlockArgs}
-use Rattle.nm_rules.specs.declared.calls.Call.{Call}
-use Rattle.nm_rules.specs.declared.calls.Deed.TheVariants as deed
-use Rattle.nm_rules.specs.declared.calls.Event.TheVariants.{Asked}
-use Rattle.nm_rules.specs.declared.calls.Owner.{Owner}
-use Rattle.nm_rules.specs.declared.calls.Reply.{Reply}
-use Rattle.nm_rules.specs.declared.calls.ReplyValue.TheVariants as told
-use Rattle.nm_rules.specs.declared.calls.StateId.{StateId}
-use Rattle.nm_rules.specs.declared.calls.StateRef.{StateRef}
-use Rattle.nm_rules.specs.declared.calls.StateRef.TheVariants.{Zeros, Ones, Named}
-use Rattle.nm_rules.specs.declared.calls.Verdict.{Verdict}
-use Rattle.nm_rules.specs.declared.calls.Verdict.TheVariants.{Pass, LeaseMoved}
-use Rattle.nm_rules.specs.declared.results.Denied.{Denied}
-use Rattle.nm_rules.specs.declared.results.LockOutcome.TheVariants.{Locked, Denied as IsDenied}
-use Rattle.nm_rules.specs.declared.rows.Held.{Held}
-use Rattle.nm_rules.specs.declared.rows.LockRow.{LockRow}
-use Rattle.nm_rules.specs.declared.rows.OpenRow.{OpenRow}
-use Rattle.nm_rules.specs.declared.status.OpStatus.{OpStatus}
-use Rattle.nm_rules.specs.declared.status.OpStatus.TheVariants.{BadStateId, Inval, IsDir, Nfs4Ok, NoGrace, OldStateId, OpenMode, Resource, Stale, StaleClientId, Denied as DeniedStatus}
+use Rattle.nm_types.specs.declared.args.LockArgs.{LockArgs}
+use Rattle.nm_types.specs.declared.args.LockTestArgs.{LockTestArgs}
+use Rattle.nm_types.specs.declared.args.Locker.TheVariants.{Known}
+use Rattle.nm_types.specs.declared.args.ReleaseLockOwnerArgs.{ReleaseLockOwnerArgs}
+use Rattle.nm_types.specs.declared.args.UnlockArgs.{UnlockArgs}
+use Rattle.nm_types.specs.declared.calls.Call.{Call}
+use Rattle.nm_types.specs.declared.calls.Deed.TheVariants as deed
+use Rattle.nm_types.specs.declared.calls.Event.TheVariants.{Asked}
+use Rattle.nm_types.specs.declared.calls.Owner.{Owner}
+use Rattle.nm_types.specs.declared.calls.Reply.{Reply}
+use Rattle.nm_types.specs.declared.calls.ReplyValue.TheVariants as told
+use Rattle.nm_types.specs.declared.calls.StateId.{StateId}
+use Rattle.nm_types.specs.declared.calls.StateRef.{StateRef}
+use Rattle.nm_types.specs.declared.calls.StateRef.TheVariants.{Zeros, Ones, Named}
+use Rattle.nm_types.specs.declared.calls.Verdict.{Verdict}
+use Rattle.nm_types.specs.declared.calls.Verdict.TheVariants.{Pass, LeaseMoved}
+use Rattle.nm_types.specs.declared.results.Denied.{Denied}
+use Rattle.nm_types.specs.declared.results.LockOutcome.TheVariants.{Locked, Denied as IsDenied}
+use Rattle.nm_types.specs.declared.rows.Held.{Held}
+use Rattle.nm_types.specs.declared.rows.LockRow.{LockRow}
+use Rattle.nm_types.specs.declared.rows.OpenRow.{OpenRow}
+use Rattle.nm_types.specs.declared.status.OpStatus.{OpStatus}
+use Rattle.nm_types.specs.declared.status.OpStatus.TheVariants.{BadStateId, Inval, IsDir, Nfs4Ok, NoGrace, OldStateId, OpenMode, Resource, Stale, StaleClientId, Denied as DeniedStatus}
 use Rattle.nm_rules.proofs.Classes.{or_none, refuse_if-none}
 use Rattle.nm_state.specs.Locking.{IsOn, after_drawing, after_locks, after_new_lock, known_front, locker_of, new_front, refused_lock, test_front}
 use Rattle.nm_state.specs.Opening.{Applied, after_release}

@@ -3,12 +3,13 @@ use Rattle.std.proofs.Common.{◌≡◌, ℕ, ◌+◌, Bool, true, false, cond, 
 use Rattle.std.specs.Prelude.{is_none, unwrap_or, ◌&&◌, ◌||◌, ◌<◌, ◌≤◌, ◌-◌, ◌^◌, nat_le, nat_lt}
 use Rattle.std.proofs.lemmas.Bool.{true≢false}
 use Rattle.std.proofs.lemmas.Bool.Decides.{nat_tests}
-use Rattle.nm_rules.specs.Parties.{Party}
+use Rattle.nm_types.specs.Parties.{Party}
 use Rattle.nm_rules.specs.Attributes.{asked_size}
 use Rattle.nm_rules.specs.Contents.{tree_after, size_limit, total_limit, total_size}
 use Rattle.nm_rules.specs.Shares.{open_of}
-use Rattle.nm_rules.specs.Past.{Now, words, no_words, with_owners, is_done, deed_words, judgement_for, noted, owner_word, seqid_owner, started_by, opener, open_tree, opentype_asks, cuts}
-use Rattle.nm_rules.specs.Seqids.{OwnerWord, advances, closed_after, owners_after}
+use Rattle.nm_rules.specs.Past.{Now, words, no_words, with_owners, deed_words, judgement_for, noted, owner_word, seqid_owner, started_by, opener, open_tree, opentype_asks, cuts}
+use Rattle.nm_types.specs.Statuses.{is_done, advances}
+use Rattle.nm_rules.specs.Seqids.{OwnerWord, closed_after, owners_after}
 use Rattle.nm_rules.specs.Seqids.OwnerWord.{Stays}
 use Rattle.nm_rules.specs.Seen.{Seen, look, after, after_words, empty}
 use Rattle.nm_rules.specs.Opens.{GoesOpen, file_to_open, target, tree_limit}
@@ -18,19 +19,19 @@ use Rattle.nm_rules.specs.Files.{changes_past_end, sized_limit}
 use Rattle.nm_rules.proofs.Classes.{or_none, refuse_if-none}
 use Rattle.nm_rules.specs.Checks.Stop.{Refuse}
 use Rattle.nm_rules.specs.Sound.{IsSound}
-use Rattle.nm_rules.specs.declared.calls.Call.{Call}
-use Rattle.nm_rules.specs.declared.calls.Deed.{Deed}
-use Rattle.nm_rules.specs.declared.calls.Deed.TheVariants as deed
-use Rattle.nm_rules.specs.declared.args.OpenArgs.{OpenArgs}
-use Rattle.nm_rules.specs.declared.args.OpenType.{OpenType}
-use Rattle.nm_rules.specs.declared.calls.Verdict.{Verdict}
-use Rattle.nm_rules.specs.declared.calls.Event.TheVariants.{Asked, Ended}
-use Rattle.nm_rules.specs.declared.calls.Event.{Event}
-use Rattle.nm_rules.specs.declared.calls.Reply.{Reply}
-use Rattle.nm_rules.specs.declared.calls.ReplyValue.TheVariants as told
-use Rattle.nm_rules.specs.declared.calls.ReplyValue.{ReplyValue}
-use Rattle.nm_rules.specs.declared.status.OpStatus.{OpStatus}
-use Rattle.nm_rules.specs.declared.status.OpStatus.TheVariants.{Nfs4Ok, FBig, NoSpc, Resource, Denied as DeniedStatus}
+use Rattle.nm_types.specs.declared.calls.Call.{Call}
+use Rattle.nm_types.specs.declared.calls.Deed.{Deed}
+use Rattle.nm_types.specs.declared.calls.Deed.TheVariants as deed
+use Rattle.nm_types.specs.declared.args.OpenArgs.{OpenArgs}
+use Rattle.nm_types.specs.declared.args.OpenType.{OpenType}
+use Rattle.nm_types.specs.declared.calls.Verdict.{Verdict}
+use Rattle.nm_types.specs.declared.calls.Event.TheVariants.{Asked, Ended}
+use Rattle.nm_types.specs.declared.calls.Event.{Event}
+use Rattle.nm_types.specs.declared.calls.Reply.{Reply}
+use Rattle.nm_types.specs.declared.calls.ReplyValue.TheVariants as told
+use Rattle.nm_types.specs.declared.calls.ReplyValue.{ReplyValue}
+use Rattle.nm_types.specs.declared.status.OpStatus.{OpStatus}
+use Rattle.nm_types.specs.declared.status.OpStatus.TheVariants.{Nfs4Ok, FBig, NoSpc, Resource, Denied as DeniedStatus}
 use Rattle.nm_rules.proofs.Legal.{words-refused, sound-after}
 use Rattle.nm_rules.proofs.OwnerLaws.{same-after}
 use Rattle.nm_state.specs.State.{StateNow, ended}

@@ -5,8 +5,8 @@ use Rattle.std.proofs.lemmas.Bool.Decides.{nat_tests}
 use Rattle.std.proofs.lemmas.List.{drop_more, length-map}
 use Rattle.nm_rules.specs.Files.{entry_of, entry_size, fitting, is_listed, is_too_small, listed}
 use Rattle.nm_rules.specs.Lists.{is_empty}
-use Rattle.nm_rules.specs.declared.results.DirEntry.{DirEntry}
-use Rattle.nm_rules.specs.declared.rows.FileRow.{FileRow}
+use Rattle.nm_types.specs.declared.results.DirEntry.{DirEntry}
+use Rattle.nm_types.specs.declared.rows.FileRow.{FileRow}
 use Rattle.nm_state.specs.Pages.{IsFront, IsPage, first_listed, has_no_room}
 
 -- ---- a row is listed or not, and has room or not

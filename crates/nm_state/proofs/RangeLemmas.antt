@@ -7,11 +7,11 @@ use Rattle.std.specs.List.{position, position_or_len}
 use Rattle.nm_rules.specs.LockRows.{is_held_by, is_of, put_file, put_lock, put_ranges, ranges_on, ranges_taken}
 use Rattle.nm_rules.specs.Locks.{barrier, cleared, dropped, is_before, joined, joined_after, put_range, set_to, touches}
 use Rattle.nm_rules.specs.Opens.{rows_limit}
-use Rattle.nm_rules.specs.Parties.{Party, same_party}
-use Rattle.nm_rules.specs.declared.results.LockKind.{LockKind}
-use Rattle.nm_rules.specs.declared.rows.FileLocks.{FileLocks}
-use Rattle.nm_rules.specs.declared.rows.Held.{Held}
-use Rattle.nm_rules.specs.declared.rows.LockRow.{LockRow}
+use Rattle.nm_types.specs.Parties.{Party, same_party}
+use Rattle.nm_types.specs.declared.results.LockKind.{LockKind}
+use Rattle.nm_types.specs.declared.rows.FileLocks.{FileLocks}
+use Rattle.nm_types.specs.declared.rows.Held.{Held}
+use Rattle.nm_types.specs.declared.rows.LockRow.{LockRow}
 use Rattle.nm_state.specs.Locking.{has_counter}
 use Rattle.nm_state.specs.Taken.{adds, counted, has_file, ranges_in, taken_with, waits_after}
 

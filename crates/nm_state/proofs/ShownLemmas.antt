@@ -5,11 +5,11 @@ use Rattle.std.proofs.lemmas.Bool.Decides.{nat_tests}
 use Rattle.std.specs.Prelude.{◌==◌, not, nat_lt, filter, insert}
 use Rattle.std.specs.List.{position, position_or_len}
 use Rattle.nm_rules.specs.Held.{held_lock, put_held, range_of, ranges_of, with_locks}
-use Rattle.nm_rules.specs.declared.rows.FileLocks.{FileLocks}
-use Rattle.nm_rules.specs.declared.rows.FileRow.{FileRow}
-use Rattle.nm_rules.specs.declared.rows.Held.{Held}
-use Rattle.nm_rules.specs.declared.rows.LockRow.{LockRow}
-use Rattle.nm_rules.specs.declared.table.HeldRow.{HeldRow}
+use Rattle.nm_types.specs.declared.rows.FileLocks.{FileLocks}
+use Rattle.nm_types.specs.declared.rows.FileRow.{FileRow}
+use Rattle.nm_types.specs.declared.rows.Held.{Held}
+use Rattle.nm_types.specs.declared.rows.LockRow.{LockRow}
+use Rattle.nm_types.specs.declared.table.HeldRow.{HeldRow}
 use Rattle.nm_state.specs.Listing.{is_behind, range_if}
 
 -- one range more

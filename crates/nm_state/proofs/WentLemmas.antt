@@ -6,7 +6,7 @@ use Rattle.nm_rules.specs.Answer.{checks, refused_value, reply_by, reply_with}
 use Rattle.nm_rules.specs.Checks.{Checks, behind_seqid, refusal}
 use Rattle.nm_rules.specs.Contents.{file_at, tree_after}
 use Rattle.nm_rules.specs.Opens.{changed_stateid, close_checks, confirm_checks, downgrade_checks, file_to_open, is_narrower, next_stateid, open_checks, open_value, row_to_open}
-use Rattle.nm_rules.specs.Parties.{Party}
+use Rattle.nm_types.specs.Parties.{Party}
 use Rattle.nm_rules.specs.LockRows.{locks_after, ranges_after}
 use Rattle.nm_rules.specs.LockRows.LockWord.{ClosedWith}
 use Rattle.nm_rules.specs.Past.{claimed_name, closed_by, deed_words, open_tree, opener, started_by, with_owners}
@@ -17,21 +17,21 @@ use Rattle.nm_rules.specs.Shares.{narrowed_row, open_at, open_of, opens_after, p
 use Rattle.nm_rules.specs.Shares.OpenWord.{Drop}
 use Rattle.nm_rules.specs.Sound.{rises}
 use Rattle.nm_rules.specs.Stateids.{confirm_stop, live_stop, open_named}
-use Rattle.nm_rules.specs.declared.args.CloseArgs.{CloseArgs}
-use Rattle.nm_rules.specs.declared.args.OpenArgs.{OpenArgs}
-use Rattle.nm_rules.specs.declared.args.OpenConfirmArgs.{OpenConfirmArgs}
-use Rattle.nm_rules.specs.declared.args.OpenDowngradeArgs.{OpenDowngradeArgs}
-use Rattle.nm_rules.specs.declared.calls.Call.{Call}
-use Rattle.nm_rules.specs.declared.calls.Deed.TheVariants as deed
-use Rattle.nm_rules.specs.declared.calls.Owner.{Owner}
-use Rattle.nm_rules.specs.declared.calls.ReplyValue.TheVariants as told
-use Rattle.nm_rules.specs.declared.calls.StateId.{StateId}
-use Rattle.nm_rules.specs.declared.calls.StateRef.{StateRef}
-use Rattle.nm_rules.specs.declared.calls.Verdict.{Verdict}
-use Rattle.nm_rules.specs.declared.results.Opened.{Opened}
-use Rattle.nm_rules.specs.declared.rows.OpenRow.{OpenRow}
-use Rattle.nm_rules.specs.declared.status.OpStatus.{OpStatus}
-use Rattle.nm_rules.specs.declared.status.OpStatus.TheVariants.{Inval, Nfs4Ok}
+use Rattle.nm_types.specs.declared.args.CloseArgs.{CloseArgs}
+use Rattle.nm_types.specs.declared.args.OpenArgs.{OpenArgs}
+use Rattle.nm_types.specs.declared.args.OpenConfirmArgs.{OpenConfirmArgs}
+use Rattle.nm_types.specs.declared.args.OpenDowngradeArgs.{OpenDowngradeArgs}
+use Rattle.nm_types.specs.declared.calls.Call.{Call}
+use Rattle.nm_types.specs.declared.calls.Deed.TheVariants as deed
+use Rattle.nm_types.specs.declared.calls.Owner.{Owner}
+use Rattle.nm_types.specs.declared.calls.ReplyValue.TheVariants as told
+use Rattle.nm_types.specs.declared.calls.StateId.{StateId}
+use Rattle.nm_types.specs.declared.calls.StateRef.{StateRef}
+use Rattle.nm_types.specs.declared.calls.Verdict.{Verdict}
+use Rattle.nm_types.specs.declared.results.Opened.{Opened}
+use Rattle.nm_types.specs.declared.rows.OpenRow.{OpenRow}
+use Rattle.nm_types.specs.declared.status.OpStatus.{OpStatus}
+use Rattle.nm_types.specs.declared.status.OpStatus.TheVariants.{Inval, Nfs4Ok}
 use Rattle.nm_rules.proofs.Classes.{or_none, refuse_if-none}
 use Rattle.nm_rules.proofs.Legal.{claimed_is_target, drew_new, named_is_live, same_row}
 use Rattle.nm_shares.specs.Rows.{downgrade_answer, last_after, renewed_state, row_to_take}

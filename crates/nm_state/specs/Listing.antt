@@ -2,10 +2,10 @@
 use Rattle.std.specs.Prelude.{◌==◌, nat_lt, ℕ, Bool, List, [], ◌∷◌, Option, Some, None, if◌then◌else◌}
 use Rattle.std.specs.List.{insert}
 use Rattle.nm_rules.specs.Held.{range_of}
-use Rattle.nm_rules.specs.Parties.{Party}
-use Rattle.nm_rules.specs.declared.results.LockRange.{LockRange}
-use Rattle.nm_rules.specs.declared.rows.Held.{Held}
-use Rattle.nm_rules.specs.declared.table.HeldRow.{HeldRow}
+use Rattle.nm_types.specs.Parties.{Party}
+use Rattle.nm_types.specs.declared.results.LockRange.{LockRange}
+use Rattle.nm_types.specs.declared.rows.Held.{Held}
+use Rattle.nm_types.specs.declared.table.HeldRow.{HeldRow}
 
 -- the list with a party at that place, or as it is where there is none for it
 abbrev pub put_at : Option ℕ → Party → List Party → List Party

@@ -1,6 +1,6 @@
 -- What operations on opens that nothing stops leave of the tables.
 use Rattle.std.specs.Prelude.{◌≡◌, ◌<◌, ◌≤◌, ◌-◌, ◌^◌, ℕ}
-use Rattle.nm_rules.specs.Parties.{Party}
+use Rattle.nm_types.specs.Parties.{Party}
 use Rattle.nm_rules.specs.Contents.{TreeNow, TreeWord, file_at, size_limit, total_limit, total_size, tree_after}
 use Rattle.nm_rules.specs.LockRows.{locks_after, ranges_after}
 use Rattle.nm_rules.specs.LockRows.LockWord.{EndedOf, Released}
@@ -12,10 +12,10 @@ use Rattle.nm_rules.specs.Past.{claimed_name, opener, open_tree}
 use Rattle.nm_rules.specs.Seen.{Seen, after}
 use Rattle.nm_rules.specs.Answer.{answer_to}
 use Rattle.nm_rules.specs.Opens.{file_to_open, target}
-use Rattle.nm_rules.specs.declared.calls.Owner.{Owner}
-use Rattle.nm_rules.specs.declared.calls.Event.{Event}
-use Rattle.nm_rules.specs.declared.calls.Reply.{Reply}
-use Rattle.nm_rules.specs.declared.args.OpenArgs.{OpenArgs}
+use Rattle.nm_types.specs.declared.calls.Owner.{Owner}
+use Rattle.nm_types.specs.declared.calls.Event.{Event}
+use Rattle.nm_types.specs.declared.calls.Reply.{Reply}
+use Rattle.nm_types.specs.declared.args.OpenArgs.{OpenArgs}
 use Rattle.nm_shares.specs.Rows.{row_to_take, last_after}
 
 -- what an OPEN does to the tree: it makes its file, cuts it, or neither

@@ -1,8 +1,8 @@
 -- A reply of READDIR as it is made: entry by entry, while there is room.
 use Rattle.std.specs.Prelude.{◌≡◌, ◌==◌, ◌+◌, ◌++◌, ℕ, Bool, false, not, nat_le, List, Option, Some, None, find, length, map}
 use Rattle.nm_rules.specs.Files.{entry_of, entry_size, fitting, is_listed, listed}
-use Rattle.nm_rules.specs.declared.results.DirEntry.{DirEntry}
-use Rattle.nm_rules.specs.declared.rows.FileRow.{FileRow}
+use Rattle.nm_types.specs.declared.results.DirEntry.{DirEntry}
+use Rattle.nm_types.specs.declared.rows.FileRow.{FileRow}
 
 -- The entries are those that there is room for, and whether they are all is told.
 pub record IsPage (dir cookie : ℕ) (asks : Bool) (room : ℕ) (rows : List FileRow) (entries : List DirEntry) (eof : Bool) : Type 0 where

@@ -1,7 +1,7 @@
 -- The ranges of files as they are found and counted.
 use Rattle.std.specs.Prelude.{◌==◌, ◌&&◌, ℕ, ◌+◌, Bool, List, [], ◌∷◌, length, min, Option, Some, None, if◌then◌else◌}
-use Rattle.nm_rules.specs.declared.rows.FileLocks.{FileLocks}
-use Rattle.nm_rules.specs.declared.rows.Held.{Held}
+use Rattle.nm_types.specs.declared.rows.FileLocks.{FileLocks}
+use Rattle.nm_types.specs.declared.rows.Held.{Held}
 use Rattle.nm_ranges.specs.Rows.{RangesNow}
 
 -- the ranges are of that file

@@ -1,6 +1,6 @@
 -- Whether it is an operation's turn: what its stateid and its owner's seqid say before all other classes (RFC 7530, 9.1.7).
 use Rattle.std.specs.Prelude.{◌≡◌, ℕ, Bool, false, Option, Some, None, nat_le, if◌then◌else◌}
-use Rattle.nm_rules.specs.Parties.{Party}
+use Rattle.nm_types.specs.Parties.{Party}
 use Rattle.nm_rules.specs.Checks.{Checks, Stop, behind_seqid, refusal}
 use Rattle.nm_rules.specs.Checks.Stop.{Refuse, Repeat}
 use Rattle.nm_rules.specs.LockAsks.{lock_owner}
@@ -8,25 +8,27 @@ use Rattle.nm_rules.specs.LockOps.{newcomer_stop}
 use Rattle.nm_rules.specs.Opens.{claim_unresolved, rows_limit, rows_taken}
 use Rattle.nm_rules.specs.Past.{closed_by, deed_words, noted_row, opener, seqid_owner, started_by, with_owners}
 use Rattle.nm_rules.specs.Seen.{Seen, after_words, look}
-use Rattle.nm_rules.specs.Seqids.{OwnerWord, advances, closed_after, owner_at, owners_after, seqid_of}
+use Rattle.nm_rules.specs.Seqids.{OwnerWord, closed_after, owner_at, owners_after}
+use Rattle.nm_types.specs.Statuses.{advances}
+use Rattle.nm_types.specs.Calls.{seqid_of}
 use Rattle.nm_rules.specs.Seqids.OwnerWord.{Noted, Stays}
 use Rattle.nm_rules.specs.Stateids.{is_own, is_own_lock, owner_stop, resolved}
 use Rattle.nm_rules.specs.Answer.{checks, refused_value, reply_by, reply_with}
-use Rattle.nm_rules.specs.declared.args.LockArgs.{LockArgs}
-use Rattle.nm_rules.specs.declared.args.Locker.TheVariants.{Known}
-use Rattle.nm_rules.specs.declared.args.OpenArgs.{OpenArgs}
-use Rattle.nm_rules.specs.declared.calls.Call.{Call}
-use Rattle.nm_rules.specs.declared.calls.Deed.{Deed}
-use Rattle.nm_rules.specs.declared.calls.Deed.TheVariants as deed
-use Rattle.nm_rules.specs.declared.calls.Event.TheVariants.{Asked}
-use Rattle.nm_rules.specs.declared.calls.Owner.{Owner}
-use Rattle.nm_rules.specs.declared.calls.Reply.{Reply}
-use Rattle.nm_rules.specs.declared.calls.StateRef.{StateRef}
-use Rattle.nm_rules.specs.declared.calls.Verdict.{Verdict}
-use Rattle.nm_rules.specs.declared.rows.LockRow.{LockRow}
-use Rattle.nm_rules.specs.declared.rows.OpenRow.{OpenRow}
-use Rattle.nm_rules.specs.declared.status.OpStatus.{OpStatus}
-use Rattle.nm_rules.specs.declared.status.OpStatus.TheVariants.{BadStateId}
+use Rattle.nm_types.specs.declared.args.LockArgs.{LockArgs}
+use Rattle.nm_types.specs.declared.args.Locker.TheVariants.{Known}
+use Rattle.nm_types.specs.declared.args.OpenArgs.{OpenArgs}
+use Rattle.nm_types.specs.declared.calls.Call.{Call}
+use Rattle.nm_types.specs.declared.calls.Deed.{Deed}
+use Rattle.nm_types.specs.declared.calls.Deed.TheVariants as deed
+use Rattle.nm_types.specs.declared.calls.Event.TheVariants.{Asked}
+use Rattle.nm_types.specs.declared.calls.Owner.{Owner}
+use Rattle.nm_types.specs.declared.calls.Reply.{Reply}
+use Rattle.nm_types.specs.declared.calls.StateRef.{StateRef}
+use Rattle.nm_types.specs.declared.calls.Verdict.{Verdict}
+use Rattle.nm_types.specs.declared.rows.LockRow.{LockRow}
+use Rattle.nm_types.specs.declared.rows.OpenRow.{OpenRow}
+use Rattle.nm_types.specs.declared.status.OpStatus.{OpStatus}
+use Rattle.nm_types.specs.declared.status.OpStatus.TheVariants.{BadStateId}
 use Rattle.nm_state.specs.Locking.{locker_of}
 use Rattle.nm_state.specs.Opening.{Applied}
 use Rattle.nm_state.specs.declared.lock_asks.Newcomer.{Newcomer}

@@ -2,14 +2,14 @@
 ghost use Rattle.std.specs.Prelude.{◌≡◌, ◌==◌, ◌≤◌, true, false, [], ◌∷◌, length, bit_or, IfOk};
 ghost use Rattle.std.specs.List.{list_all};
 ghost use Rattle.nm_rules.specs.Attributes.{are_within, asked_mode, asked_size, asks_of, has_mode, has_size, is_invalid, is_unsupported, set_words, sets_any, values_ask};
-ghost use Rattle.nm_rules.specs.Wire.{hyper_in, word_in};
+ghost use Rattle.nm_types.specs.Wire.{hyper_in, word_in};
 ghost use Rattle.nm_state.specs.Asked.{asks_of_code};
 
-use nm_rules::{Fattr, Items, Memory, Words};
+use nm_types::{Fattr, Items, Memory, Words};
 use std::alloc::Global;
 
 /// What attributes ask for.
-#[derive(Clone, Copy, Debug, PartialEq, Eq)]
+#[derive(Clone, Copy)]
 pub enum Asked {
     /// One of them isn't supported.
     Unsupported,
@@ -237,7 +237,7 @@ fn both_in(values: &[u8]) -> Asked
 }
 
 // The number in the first 4 bytes.
-#[tactic(auto, unfolding(nm_rules::specs::Wire::word_in))]
+#[tactic(auto, unfolding(nm_types::specs::Wire::word_in))]
 fn word_of(bytes: &[u8]) -> u32
     requires { 4 ≤ length bytes.now }
     ensures { result ≡ word_in bytes.now }
@@ -246,7 +246,7 @@ fn word_of(bytes: &[u8]) -> u32
 }
 
 // The number in the first 8 bytes.
-#[tactic(auto, unfolding(nm_rules::specs::Wire::hyper_in))]
+#[tactic(auto, unfolding(nm_types::specs::Wire::hyper_in))]
 fn hyper_of(bytes: &[u8]) -> u64
     requires { 8 ≤ length bytes.now }
     ensures { result ≡ hyper_in bytes.now }

@@ -10,7 +10,7 @@ ghost use Rattle.nm_state.specs.Asked.{asks_of_code};
 
 use crate::attributes::Asked;
 use crate::tables::Tables;
-use nm_rules::{ChangeInfo, FileKind, FileRow, OpStatus, Verdict};
+use nm_types::{ChangeInfo, FileKind, FileRow, OpStatus, Verdict};
 
 /// The last counter, file's number and change's number: none comes after it.
 pub const LAST: u64 = 1 << 63;

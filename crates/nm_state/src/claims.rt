@@ -6,10 +6,10 @@ ghost use Rattle.nm_state.specs.Asked.{asks_of_code};
 
 use crate::attributes::{Asked, asks_of};
 use crate::checks::{arguments_fault, refuse_if};
-use nm_rules::{
+use nm_shares::is_share;
+use nm_types::{
     Bytes, Claim, FileRow, Instance, Memory, OpStatus, OpenArgs, OpenType, Owner, OwnerKind,
 };
-use nm_shares::is_share;
 
 /// The name that a claim gives.
 #[tactic(auto, unfolding(nm_rules::specs::Past::claimed_name))]

@@ -1,9 +1,9 @@
 //! The opens whose CLOSE is their owner's kept call (RFC 7530, 9.1.7).
 ghost use Rattle.std.specs.Prelude.{◌≡◌, IfOk, filter, length, not};
-ghost use Rattle.nm_rules.specs.Owners.{same_owner};
-ghost use Rattle.nm_rules.specs.Parties.{same_party};
+ghost use Rattle.nm_types.specs.Owners.{same_owner};
+ghost use Rattle.nm_types.specs.Parties.{same_party};
 
-use nm_rules::{Instance, Memory, OpenRow, Owner};
+use nm_types::{Instance, Memory, OpenRow, Owner};
 use std::alloc::Global;
 
 /// The opens without those of an owner.

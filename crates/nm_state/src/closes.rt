@@ -7,9 +7,9 @@ ghost use Rattle.nm_rules.specs.Opens.{changed_stateid, close_checks, locks_stop
 ghost use Rattle.nm_rules.specs.Shares.{open_at, renewed_row};
 ghost use Rattle.nm_rules.specs.Shares.OpenWord.{Drop as DropOpen};
 ghost use Rattle.nm_rules.specs.Stateids.{open_named};
-ghost use Rattle.nm_rules.specs.declared.calls.Deed.TheVariants.{Close as CloseDeed};
+ghost use Rattle.nm_types.specs.declared.calls.Deed.TheVariants.{Close as CloseDeed};
 ghost use Rattle.nm_rules.specs.Seqids.OwnerWord.{Stays};
-ghost use Rattle.nm_rules.specs.declared.calls.Event.TheVariants.{Asked as AskedEvent};
+ghost use Rattle.nm_types.specs.declared.calls.Event.TheVariants.{Asked as AskedEvent};
 ghost use Rattle.nm_state.specs.Locking.{after_locks};
 ghost use Rattle.nm_state.specs.Opening.{Applied, after_opens};
 ghost use Rattle.nm_state.specs.Turns.{Went, reply_behind};
@@ -18,10 +18,10 @@ use crate::checks::{lease_refusal, refuse_if};
 use crate::lock_rows;
 use crate::seqids::Turn;
 use crate::tables::Tables;
-use nm_rules::{
+use nm_shares::seqid_after;
+use nm_types::{
     Call, CloseArgs, Memory, OpStatus, OpenRow, Reply, ReplyValue, StateId, StateRef, Verdict,
 };
-use nm_shares::seqid_after;
 
 impl Tables {
     // An open whose lock owners hold something isn't closed.

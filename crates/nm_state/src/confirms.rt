@@ -4,19 +4,19 @@ ghost use Rattle.nm_rules.specs.Answer.{answer_to};
 ghost use Rattle.nm_rules.specs.Checks.{behind_seqid};
 ghost use Rattle.nm_rules.specs.Opens.{confirm_checks, downgrade_checks, is_narrower};
 ghost use Rattle.nm_rules.specs.Shares.{narrowed_row, open_at, put_if, renewed_row};
-ghost use Rattle.nm_rules.specs.declared.calls.Deed.TheVariants.{OpenConfirm as ConfirmDeed, OpenDowngrade as DowngradeDeed};
+ghost use Rattle.nm_types.specs.declared.calls.Deed.TheVariants.{OpenConfirm as ConfirmDeed, OpenDowngrade as DowngradeDeed};
 ghost use Rattle.nm_rules.specs.Seqids.OwnerWord.{Stays};
-ghost use Rattle.nm_rules.specs.declared.calls.Event.TheVariants.{Asked as AskedEvent};
+ghost use Rattle.nm_types.specs.declared.calls.Event.TheVariants.{Asked as AskedEvent};
 ghost use Rattle.nm_state.specs.Opening.{Applied, after_opens};
 ghost use Rattle.nm_state.specs.Turns.{Went, reply_behind};
 
 use crate::checks::{lease_refusal, refuse_if};
 use crate::seqids::Turn;
 use crate::tables::Tables;
-use nm_rules::{
+use nm_shares::is_narrower;
+use nm_types::{
     Call, Memory, OpStatus, OpenConfirmArgs, OpenDowngradeArgs, Reply, ReplyValue, Verdict,
 };
-use nm_shares::is_narrower;
 
 impl Tables {
     // The first class behind the seqid that refuses an OPEN_CONFIRM.

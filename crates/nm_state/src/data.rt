@@ -7,15 +7,15 @@ ghost use Rattle.nm_rules.specs.Data.{commit_checks, read_checks, read_of, read_
 ghost use Rattle.nm_rules.specs.Files.{current};
 ghost use Rattle.nm_rules.specs.Opens.{is_denied};
 ghost use Rattle.nm_rules.specs.Past.{parent_of, write_tree};
-ghost use Rattle.nm_rules.specs.declared.calls.Event.TheVariants.{Asked};
-ghost use Rattle.nm_rules.specs.declared.calls.Deed.TheVariants.{Commit as CommitDeed, Read as ReadDeed, Write as WriteDeed};
+ghost use Rattle.nm_types.specs.declared.calls.Event.TheVariants.{Asked};
+ghost use Rattle.nm_types.specs.declared.calls.Deed.TheVariants.{Commit as CommitDeed, Read as ReadDeed, Write as WriteDeed};
 ghost use Rattle.nm_state.specs.Opening.{Applied, after_word};
 
 use crate::checks::{is_empty, lease_refusal, refuse_if, size_of};
 use crate::parts::{TRANSFER_LIMIT, part, taken};
 use crate::stateids::{any_unresolved, meets};
 use crate::tables::Tables;
-use nm_rules::{
+use nm_types::{
     Bytes, CommitArgs, FileRow, Instance, Memory, OpStatus, ReadArgs, ReadOk, Reply, ReplyValue,
     StateRef, Verdict, WriteArgs, WriteOk,
 };

@@ -6,8 +6,8 @@ ghost use Rattle.nm_rules.specs.Checks.{first, refusal};
 ghost use Rattle.nm_rules.specs.Contents.TreeWord.{Made, Removed};
 ghost use Rattle.nm_rules.specs.Files.{changes_past_end, create_checks, create_fault, create_value, has_entries, is_open, is_some_size, makes_past_end, remove_checks, remove_conflict, sizes_directory, type_fault};
 ghost use Rattle.nm_rules.specs.Past.{new_directory};
-ghost use Rattle.nm_rules.specs.declared.calls.Deed.TheVariants.{Create as CreateDeed, Remove as RemoveDeed};
-ghost use Rattle.nm_rules.specs.declared.calls.Event.TheVariants.{Asked};
+ghost use Rattle.nm_types.specs.declared.calls.Deed.TheVariants.{Create as CreateDeed, Remove as RemoveDeed};
+ghost use Rattle.nm_types.specs.declared.calls.Event.TheVariants.{Asked};
 ghost use Rattle.nm_state.specs.Asked.{asks_of_code};
 ghost use Rattle.nm_state.specs.Opening.{Applied, after_word};
 
@@ -15,7 +15,7 @@ use crate::attributes::{self, asks_of, set_words};
 use crate::checks::{arguments_fault, lease_refusal, refuse_if};
 use crate::names::{is_entry_of, name_stop};
 use crate::tables::Tables;
-use nm_rules::{
+use nm_types::{
     Bytes, CreateArgs, CreateOk, CreateType, Created, FileKind, FileRow, Instance, Memory,
     OpStatus, RemoveArgs, Reply, ReplyValue, Verdict,
 };

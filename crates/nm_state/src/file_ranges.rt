@@ -5,19 +5,19 @@ ghost use Rattle.nm_rules.specs.Locks.{barrier, cleared, holds, set_to};
 ghost use Rattle.nm_state.specs.Taken.{adds, counted, has_file, table_of, taken_with, waits_after};
 
 use nm_ranges::{Held, Ranges};
-use nm_rules::{Instance, LockKind, LockRow, Memory};
+use nm_types::{Instance, LockKind, LockRow, Memory};
 use std::alloc::Global;
 use std::marker::Model;
 
 /// The ranges of one file that locks hold.
-#[derive(Debug, Drop)]
+#[derive(Drop)]
 pub struct FileRanges {
     file: u64,
     ranges: Ranges,
 }
 
 impl Model for FileRanges {
-    ghost use Rattle.nm_rules.specs.declared.rows.FileLocks.{FileLocks};
+    ghost use Rattle.nm_types.specs.declared.rows.FileLocks.{FileLocks};
 
     ghost Value = { FileLocks };
 

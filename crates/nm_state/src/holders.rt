@@ -5,7 +5,7 @@ ghost use Rattle.std.specs.Vec.{vec_capacity};
 ghost use Rattle.nm_rules.specs.Holders.{gathered, is_opener_of, is_owner_of, known_of, opener_of, parties_rise, put_party};
 ghost use Rattle.nm_state.specs.Listing.{put_at};
 
-use nm_rules::{Instance, Memory, OpenRow, OwnerRow};
+use nm_types::{Instance, Memory, OpenRow, OwnerRow};
 
 /// A live open is of that instance.
 pub fn has_open(rows: &[OpenRow], instance: &Instance) -> bool

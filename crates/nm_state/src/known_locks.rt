@@ -5,7 +5,7 @@ ghost use Rattle.nm_rules.specs.LockAsks.{counter_of, is_no_range, kind_of, last
 ghost use Rattle.nm_rules.specs.LockOps.{in_the_way, ranges_with, rows_stop, rows_with_known};
 ghost use Rattle.nm_rules.specs.LockRows.{claim_if, lock_at, renewed_lock};
 ghost use Rattle.nm_rules.specs.Seqids.OwnerWord.{Stays};
-ghost use Rattle.nm_rules.specs.declared.calls.Event.TheVariants.{Asked as AskedEvent};
+ghost use Rattle.nm_types.specs.declared.calls.Event.TheVariants.{Asked as AskedEvent};
 ghost use Rattle.nm_state.specs.Locking.{IsOn, after_locks, known_front, refused_lock};
 ghost use Rattle.nm_state.specs.Opening.{Applied};
 ghost use Rattle.nm_state.specs.Turns.{Locks, Went, reply_behind};
@@ -17,7 +17,7 @@ use crate::lock_rows;
 use crate::locks::rows_stop;
 use crate::seqids::Turn;
 use crate::tables::Tables;
-use nm_rules::{
+use nm_types::{
     Call, LockArgs, LockOutcome, Memory, OpStatus, Reply, ReplyValue, StateRef, Verdict,
 };
 

@@ -3,14 +3,14 @@ ghost use Rattle.std.specs.Prelude.{◌≡◌, ◌-◌, Some, IfOk, option_copie
 ghost use Rattle.nm_rules.specs.Answer.{answer_to};
 ghost use Rattle.nm_rules.specs.Checks.{first, refusal};
 ghost use Rattle.nm_rules.specs.Files.{asks_any, entry_of, entry_size, fitting, is_listed, is_too_small, listed, readdir_checks, readdir_rows, readdir_value, reply_size};
-ghost use Rattle.nm_rules.specs.declared.calls.Deed.TheVariants.{ReadDir as ReadDirDeed};
-ghost use Rattle.nm_rules.specs.declared.calls.Event.TheVariants.{Asked};
+ghost use Rattle.nm_types.specs.declared.calls.Deed.TheVariants.{ReadDir as ReadDirDeed};
+ghost use Rattle.nm_types.specs.declared.calls.Event.TheVariants.{Asked};
 ghost use Rattle.nm_state.specs.Pages.{IsPage, first_listed, has_no_room};
 
 use crate::checks::{lease_refusal, refuse_if};
 use crate::names::{attributes_of, is_entry_of};
 use crate::tables::Tables;
-use nm_rules::{
+use nm_types::{
     DirEntry, FileRow, Instance, Items, Memory, OpStatus, ReadDirArgs, ReadDirOk, Reply,
     ReplyValue, Verdict,
 };

@@ -4,13 +4,13 @@ ghost use Rattle.nm_rules.specs.LockAsks.{access_for, counter_of, is_no_range, k
 ghost use Rattle.nm_rules.specs.LockOps.{lock_fault};
 
 use crate::checks::refuse_if;
-use nm_rules::{
+use nm_types::{
     Bytes, Held, Instance, LockArgs, LockKind, LockType, Memory, OpStatus, Owner, OwnerKind,
     StateRef,
 };
 
 /// A lock owner that has no stateid on the file yet, as it comes to lock.
-#[derive(Debug, Drop)]
+#[derive(Drop)]
 pub struct Newcomer {
     /// The open owner's next seqid.
     pub open_seqid: u32,

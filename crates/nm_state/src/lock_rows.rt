@@ -1,13 +1,13 @@
 //! The stateids of lock owners.
 ghost use Rattle.std.specs.Prelude.{◌≡◌, ◌==◌, IfOk, OnOk, filter, not, option_copied, position};
 ghost use Rattle.nm_rules.specs.LockRows.{are_idle_of, are_idle_with, is_idle, lock_at, lock_of, put_lock, renewed_lock};
-ghost use Rattle.nm_rules.specs.Owners.{same_owner};
-ghost use Rattle.nm_rules.specs.Parties.{same_party};
+ghost use Rattle.nm_types.specs.Owners.{same_owner};
+ghost use Rattle.nm_types.specs.Parties.{same_party};
 ghost use Rattle.nm_state.specs.Locking.{has_counter};
 
 use crate::file_ranges::{FileRanges, holds};
-use nm_rules::{Instance, LockRow, Memory, Owner};
 use nm_shares::seqid_after;
+use nm_types::{Instance, LockRow, Memory, Owner};
 use std::alloc::Global;
 
 /// The one of that counter.

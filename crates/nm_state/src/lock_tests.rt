@@ -4,15 +4,15 @@ ghost use Rattle.nm_rules.specs.Answer.{answer_to};
 ghost use Rattle.nm_rules.specs.LockAsks.{is_no_range};
 ghost use Rattle.nm_rules.specs.LockOps.{counter_or, test_barrier};
 ghost use Rattle.nm_rules.specs.LockRows.{lock_of};
-ghost use Rattle.nm_rules.specs.declared.calls.Deed.TheVariants.{LockTest as TestDeed};
-ghost use Rattle.nm_rules.specs.declared.calls.Event.TheVariants.{Asked as AskedEvent};
+ghost use Rattle.nm_types.specs.declared.calls.Deed.TheVariants.{LockTest as TestDeed};
+ghost use Rattle.nm_types.specs.declared.calls.Event.TheVariants.{Asked as AskedEvent};
 ghost use Rattle.nm_state.specs.Locking.{test_front};
 
 use crate::checks::{lease_refusal, refuse_if};
 use crate::lock_asks::{lock_owner, range_stop};
 use crate::lock_rows;
 use crate::tables::Tables;
-use nm_rules::{Held, Instance, LockTestArgs, Memory, OpStatus, Owner, Reply, ReplyValue, Verdict};
+use nm_types::{Held, Instance, LockTestArgs, Memory, OpStatus, Owner, Reply, ReplyValue, Verdict};
 
 impl Tables {
     // The first class before the conflict that refuses it.

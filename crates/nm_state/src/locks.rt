@@ -7,11 +7,11 @@ ghost use Rattle.nm_rules.specs.LockRows.{ranges_on};
 ghost use Rattle.nm_rules.specs.LockRows.LockWord.{Claimed};
 ghost use Rattle.nm_rules.specs.Locks.{barrier};
 ghost use Rattle.nm_rules.specs.Stateids.{lock_named};
-ghost use Rattle.nm_rules.specs.declared.calls.Deed.TheVariants.{Lock as LockDeed};
-ghost use Rattle.nm_rules.specs.declared.calls.Event.TheVariants.{Asked as AskedEvent};
-ghost use Rattle.nm_rules.specs.declared.calls.ReplyValue.TheVariants.{Lock as LockValue};
-ghost use Rattle.nm_rules.specs.declared.results.LockOutcome.TheVariants.{Denied as DeniedOutcome};
-ghost use Rattle.nm_rules.specs.declared.status.OpStatus.TheVariants.{Denied as DeniedStatus};
+ghost use Rattle.nm_types.specs.declared.calls.Deed.TheVariants.{Lock as LockDeed};
+ghost use Rattle.nm_types.specs.declared.calls.Event.TheVariants.{Asked as AskedEvent};
+ghost use Rattle.nm_types.specs.declared.calls.ReplyValue.TheVariants.{Lock as LockValue};
+ghost use Rattle.nm_types.specs.declared.results.LockOutcome.TheVariants.{Denied as DeniedOutcome};
+ghost use Rattle.nm_types.specs.declared.status.OpStatus.TheVariants.{Denied as DeniedStatus};
 ghost use Rattle.nm_state.specs.Locking.{after_locks, refused_lock};
 ghost use Rattle.nm_state.specs.Opening.{Applied};
 ghost use Rattle.nm_state.specs.Taken.{counted};
@@ -22,11 +22,11 @@ use crate::lock_asks::{Newcomer, asked, lock_owner};
 use crate::lock_rows;
 use crate::seqids::ROWS_LIMIT;
 use crate::tables::Tables;
-use nm_rules::{
+use nm_shares::seqid_after;
+use nm_types::{
     Call, Denied, Held, LockArgs, LockOutcome, LockRange, LockRow, LockType, Locker, Memory,
     OpStatus, Reply, ReplyValue, StateId, StateRef, Verdict,
 };
-use nm_shares::seqid_after;
 
 /// More rows than there may be.
 #[tactic(auto, using(crate::proofs::RangeLemmas::counted_past))]

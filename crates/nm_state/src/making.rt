@@ -10,7 +10,7 @@ ghost use Rattle.nm_state.specs.Opening.{HasRoom, after_word, open_word};
 
 use crate::claims::{cuts, exclusive_verifier, name_of, opentype_asks};
 use crate::tables::Tables;
-use nm_rules::{Bytes, FileKind, FileRow, Memory, OpenArgs};
+use nm_types::{Bytes, FileKind, FileRow, Memory, OpenArgs};
 use std::alloc::Global;
 
 // So many zeros.

@@ -4,13 +4,13 @@ ghost use Rattle.nm_rules.specs.Answer.{answer_to};
 ghost use Rattle.nm_rules.specs.Checks.{first, refusal, name_stop};
 ghost use Rattle.nm_rules.specs.Contents.{is_entry_of};
 ghost use Rattle.nm_rules.specs.Files.{access_value, attributes_of, current, dir_checks, file_checks, getattr_value, lookup_checks};
-ghost use Rattle.nm_rules.specs.declared.calls.Deed.TheVariants.{Access as AccessDeed, GetAttr as GetAttrDeed, Lookup as LookupDeed, LookupP as LookupPDeed};
-ghost use Rattle.nm_rules.specs.declared.calls.Event.TheVariants.{Asked};
+ghost use Rattle.nm_types.specs.declared.calls.Deed.TheVariants.{Access as AccessDeed, GetAttr as GetAttrDeed, Lookup as LookupDeed, LookupP as LookupPDeed};
+ghost use Rattle.nm_types.specs.declared.calls.Event.TheVariants.{Asked};
 
 use crate::attributes;
 use crate::checks::{arguments_fault, lease_refusal, refuse_if};
 use crate::tables::Tables;
-use nm_rules::{
+use nm_types::{
     AccessArgs, AccessOk, FileAttrs, FileKind, FileRow, GetAttrArgs, GetAttrOk, Instance,
     LookupArgs, Memory, OpStatus, Reply, ReplyValue, Verdict,
 };

@@ -5,7 +5,7 @@ ghost use Rattle.nm_rules.specs.LockAsks.{is_no_range, lock_owner};
 ghost use Rattle.nm_rules.specs.LockOps.{closed_without, in_the_way, is_out_of_turn, new_limit, newcomer_stop, rows_with_new};
 ghost use Rattle.nm_rules.specs.Seqids.{owner_at};
 ghost use Rattle.nm_rules.specs.Stateids.{open_named};
-ghost use Rattle.nm_rules.specs.declared.calls.Event.TheVariants.{Asked as AskedEvent};
+ghost use Rattle.nm_types.specs.declared.calls.Event.TheVariants.{Asked as AskedEvent};
 ghost use Rattle.nm_state.specs.Locking.{after_drawing, after_new_lock, new_front, refused_lock};
 ghost use Rattle.nm_state.specs.Opening.{Applied};
 ghost use Rattle.nm_state.specs.Taken.{counted};
@@ -19,11 +19,11 @@ use crate::lock_rows;
 use crate::locks::rows_stop;
 use crate::seqids::Turn;
 use crate::tables::Tables;
-use nm_rules::{
+use nm_shares::seqid_after;
+use nm_types::{
     Call, LockArgs, LockOutcome, LockRow, Memory, OpStatus, OpenRow, Owner, Reply, ReplyValue,
     StateId, StateRef, Verdict,
 };
-use nm_shares::seqid_after;
 
 impl Tables {
     // How many closed opens an operation on an open leaves.

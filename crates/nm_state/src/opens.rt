@@ -7,10 +7,10 @@ ghost use Rattle.nm_rules.specs.Past.{claimed_name, opener};
 ghost use Rattle.nm_rules.specs.Checks.{behind_seqid, refuse_if};
 ghost use Rattle.nm_rules.specs.Opens.{GoesOpen, target, target_at, row_of, file_to_open, open_kind, is_share, name_refusal, draws_past_end, tree_limit, open_limit, open_checks, row_to_open, rows_limit, rows_with_open, one_if, open_change, open_flags, open_set, open_value};
 ghost use Rattle.nm_rules.specs.Stateids.{stateid_of};
-ghost use Rattle.nm_rules.specs.declared.status.OpStatus.TheVariants.{Resource};
+ghost use Rattle.nm_types.specs.declared.status.OpStatus.TheVariants.{Resource};
 ghost use Rattle.nm_rules.specs.Seqids.OwnerWord.{Stays};
-ghost use Rattle.nm_rules.specs.declared.calls.Event.TheVariants.{Asked as AskedEvent};
-ghost use Rattle.nm_rules.specs.declared.calls.Deed.TheVariants.{Open as OpenDeed};
+ghost use Rattle.nm_types.specs.declared.calls.Event.TheVariants.{Asked as AskedEvent};
+ghost use Rattle.nm_types.specs.declared.calls.Deed.TheVariants.{Open as OpenDeed};
 ghost use Rattle.nm_rules.specs.Answer.{answer_to};
 ghost use Rattle.nm_state.specs.Opening.{Applied, after_open, after_taking};
 ghost use Rattle.nm_state.specs.Turns.{Passes, Went, reply_behind};
@@ -21,11 +21,11 @@ use crate::claims::{cuts, name_of, name_refusal, open_fault, opentype_asks, owne
 use crate::closed::count_others;
 use crate::seqids::{ROWS_LIMIT, Turn};
 use crate::tables::Tables;
-use nm_rules::{
+use nm_shares::seqid_after;
+use nm_types::{
     Call, ChangeInfo, Claim, FileRow, Instance, Memory, OpStatus, OpenArgs, OpenDelegation, OpenOk,
     OpenType, Opened, Owner, Reply, ReplyValue, StateId, Verdict, Words,
 };
-use nm_shares::seqid_after;
 
 // A number and one more, where there is one.
 fn with_one(count: usize, more: bool) -> usize

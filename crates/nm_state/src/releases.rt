@@ -4,15 +4,15 @@ ghost use Rattle.nm_rules.specs.Answer.{answer_to};
 ghost use Rattle.nm_rules.specs.Checks.{first, refusal};
 ghost use Rattle.nm_rules.specs.LockAsks.{lock_owner};
 ghost use Rattle.nm_rules.specs.LockOps.{release_checks};
-ghost use Rattle.nm_rules.specs.declared.calls.Deed.TheVariants.{ReleaseLockOwner as ReleaseDeed};
-ghost use Rattle.nm_rules.specs.declared.calls.Event.TheVariants.{Asked as AskedEvent};
+ghost use Rattle.nm_types.specs.declared.calls.Deed.TheVariants.{ReleaseLockOwner as ReleaseDeed};
+ghost use Rattle.nm_types.specs.declared.calls.Event.TheVariants.{Asked as AskedEvent};
 ghost use Rattle.nm_state.specs.Opening.{Applied, after_release};
 
 use crate::checks::{lease_refusal, refuse_if};
 use crate::lock_asks::lock_owner;
 use crate::tables::Tables;
 use crate::{closed, lock_rows};
-use nm_rules::{
+use nm_types::{
     Instance, Memory, OpStatus, Owner, ReleaseLockOwnerArgs, Reply, ReplyValue, Verdict,
 };
 

@@ -5,10 +5,11 @@ ghost use Rattle.nm_rules.specs.LockOps.{newcomer_stop};
 ghost use Rattle.nm_rules.specs.LockRows.{ranges_taken};
 ghost use Rattle.nm_rules.specs.Opens.{rows_limit, rows_taken};
 ghost use Rattle.nm_rules.specs.Past.{noted_row, opener};
-ghost use Rattle.nm_rules.specs.Seqids.{owner_at, seqid_of};
+ghost use Rattle.nm_rules.specs.Seqids.{owner_at};
+ghost use Rattle.nm_types.specs.Calls.{seqid_of};
 ghost use Rattle.nm_rules.specs.Seqids.OwnerWord.{Noted};
 ghost use Rattle.nm_rules.specs.Stateids.{owner_stop};
-ghost use Rattle.nm_rules.specs.declared.calls.Deed.TheVariants.{Open as OpenDeed};
+ghost use Rattle.nm_types.specs.declared.calls.Deed.TheVariants.{Open as OpenDeed};
 ghost use Rattle.nm_state.specs.declared.seqids.Turn.TheVariants.{Answered};
 ghost use Rattle.nm_state.specs.Taken.{counted};
 ghost use Rattle.nm_state.specs.Turns.{after_noting, lock_turn_at, note_word, turn_at, turn_behind, turn_by, turn_to_open};
@@ -18,7 +19,7 @@ use crate::closed::drop_owned;
 use crate::file_ranges::taken;
 use crate::stateids::{is_own, is_own_lock};
 use crate::tables::Tables;
-use nm_rules::{
+use nm_types::{
     Call, Deed, Instance, Items, Judgement, LockRow, Memory, OpStatus, OpenArgs, OpenRow, Owner,
     Reply, ReplyValue, StateRef,
 };
@@ -27,7 +28,7 @@ use nm_rules::{
 pub const ROWS_LIMIT: usize = 65_536;
 
 /// Whether it is an operation's turn.
-#[derive(Debug, Drop)]
+#[derive(Drop)]
 pub enum Turn {
     /// It isn't: it is answered so, and changes nothing.
     Answered(Reply),
@@ -82,7 +83,7 @@ impl Tables {
                 }
                 Ok(Turn::Of(owner.copy()?))
             }
-            Some(row) => match row.judge(seqid, call) {
+            Some(row) => match nm_rules::judge(row, seqid, call) {
                 Judgement::Unknown => Ok(Turn::Of(owner.copy()?)),
                 Judgement::Fresh => Ok(Turn::Of(owner.copy()?)),
                 Judgement::Again => Ok(Turn::Answered(row.reply.copy()?)),

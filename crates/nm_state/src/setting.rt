@@ -6,15 +6,15 @@ ghost use Rattle.nm_rules.specs.Checks.{first, refusal};
 ghost use Rattle.nm_rules.specs.Data.{attributes_stop, mode_checks, set_limit, setattr_checks, setattr_value, size_checks, unknown_stop};
 ghost use Rattle.nm_rules.specs.Files.{current};
 ghost use Rattle.nm_rules.specs.Past.{set_tree};
-ghost use Rattle.nm_rules.specs.declared.calls.Event.TheVariants.{Asked as AskedEvent};
-ghost use Rattle.nm_rules.specs.declared.calls.Deed.TheVariants.{SetAttr as SetAttrDeed};
+ghost use Rattle.nm_types.specs.declared.calls.Event.TheVariants.{Asked as AskedEvent};
+ghost use Rattle.nm_types.specs.declared.calls.Deed.TheVariants.{SetAttr as SetAttrDeed};
 ghost use Rattle.nm_state.specs.Asked.{asks_of_code};
 ghost use Rattle.nm_state.specs.Opening.{Applied, after_word};
 
 use crate::attributes::{Asked, asks_of, has_size, set_words};
 use crate::checks::{lease_refusal, refuse_if};
 use crate::tables::Tables;
-use nm_rules::{
+use nm_types::{
     Instance, Items, Memory, OpStatus, Reply, ReplyValue, SetAttrArgs, StateRef, Verdict, Words,
 };
 

@@ -6,7 +6,7 @@ ghost use Rattle.nm_rules.specs.LockRows.{ranges_on};
 ghost use Rattle.nm_state.specs.Listing.{is_behind, range_if};
 
 use crate::file_ranges::{FileRanges, ranges_on};
-use nm_rules::{
+use nm_types::{
     Bytes, FileRow, Held, HeldKind, HeldRow, HeldTable, Items, LockRange, LockRow, Memory, OpenRow,
     RangeList,
 };

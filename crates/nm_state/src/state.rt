@@ -12,17 +12,26 @@ ghost use Rattle.nm_state.specs.State.{fresh, ended, holder_of, Applies, Answers
 use crate::holders::{gather, has_open, has_owner};
 use crate::shown::show;
 use crate::tables::Tables;
-use nm_rules::{Event, FsNum, HeldTable, Instance, Memory, OpStatus, Reply, StateId, StateRef};
+use nm_types::{Event, FsNum, HeldTable, Instance, Memory, OpStatus, Reply, StateId, StateRef};
 use std::alloc::Global;
 use std::marker::Model;
 
 /// The state of one file system. Contracts see its tables, which hold what stands after the entries so far, and whether
 /// memory was wanting in the middle of a change. From then on it answers want of memory alone.
-#[derive(Debug, Drop)]
 pub struct FsState {
     alloc: Global,
     tables: Tables,
     spent: bool,
+}
+
+impl Drop for FsState {
+    fn drop(self) {
+        let FsState {
+            alloc: _,
+            tables: _,
+            spent: _,
+        } = self;
+    }
 }
 
 impl Model for FsState {

@@ -7,7 +7,7 @@ ghost use Rattle.nm_rules.specs.Stateids.{any_stop, any_unresolved, confirm_stop
 use crate::checks::refuse_if;
 use crate::lock_rows;
 use crate::tables::Tables;
-use nm_rules::{Instance, LockRow, OpStatus, OpenRow, StateRef};
+use nm_types::{Instance, LockRow, OpStatus, OpenRow, StateRef};
 
 /// An open is the caller's own.
 pub fn is_own(caller: Option<Instance>, row: &OpenRow) -> bool

@@ -1,7 +1,7 @@
 //! The tables of a file system: its files, its opens, its locks and its owners, and what each event is answered and leaves.
 ghost use Rattle.std.specs.Prelude.{◌≡◌, IfOk};
 ghost use Rattle.nm_rules.specs.Seen.{empty};
-ghost use Rattle.nm_rules.specs.declared.calls.Event.TheVariants.{Asked};
+ghost use Rattle.nm_types.specs.declared.calls.Event.TheVariants.{Asked};
 ghost use Rattle.nm_rules.specs.Answer.{answer_to, reply_with};
 ghost use Rattle.nm_state.specs.Opening.{Applied, after_end};
 
@@ -9,17 +9,16 @@ use crate::closed::{copy_rows, drop_of};
 use crate::file_ranges::{self, FileRanges};
 use crate::lock_rows;
 use nm_owners::Owners;
-use nm_rules::{
+use nm_shares::Shares;
+use nm_tree::Tree;
+use nm_types::{
     Call, Deed, Event, FileRow, FsNum, Instance, Items, LockRow, Memory, OpStatus, OpenRow,
     OwnerRow, Reply, ReplyValue, Verdict,
 };
-use nm_shares::Shares;
-use nm_tree::Tree;
 use std::alloc::Global;
 use std::marker::Model;
 
 /// The tables of one file system.
-#[derive(Debug, Drop)]
 pub struct Tables {
     pub(crate) alloc: Global,
     pub(crate) fs: FsNum,
@@ -33,6 +32,22 @@ pub struct Tables {
     pub(crate) locks: Vec<LockRow>,
     // What they hold, of each file on which they hold something.
     pub(crate) ranges: Vec<FileRanges>,
+}
+
+impl Drop for Tables {
+    fn drop(self) {
+        let Tables {
+            alloc: _,
+            fs: _,
+            grants: _,
+            tree: _,
+            shares: _,
+            owners: _,
+            closed: _,
+            locks: _,
+            ranges: _,
+        } = self;
+    }
 }
 
 impl Model for Tables {

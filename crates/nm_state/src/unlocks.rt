@@ -7,8 +7,8 @@ ghost use Rattle.nm_rules.specs.LockOps.{ranges_without, rows_stop, rows_with_kn
 ghost use Rattle.nm_rules.specs.LockRows.{clear_if, lock_at, renewed_lock};
 ghost use Rattle.nm_rules.specs.LockRows.LockWord.{Cleared};
 ghost use Rattle.nm_rules.specs.Seqids.OwnerWord.{Stays};
-ghost use Rattle.nm_rules.specs.declared.calls.Deed.TheVariants.{Unlock as UnlockDeed};
-ghost use Rattle.nm_rules.specs.declared.calls.Event.TheVariants.{Asked as AskedEvent};
+ghost use Rattle.nm_types.specs.declared.calls.Deed.TheVariants.{Unlock as UnlockDeed};
+ghost use Rattle.nm_types.specs.declared.calls.Event.TheVariants.{Asked as AskedEvent};
 ghost use Rattle.nm_state.specs.Locking.{IsOn, after_locks};
 ghost use Rattle.nm_state.specs.Opening.{Applied};
 ghost use Rattle.nm_state.specs.Turns.{Went, reply_behind};
@@ -20,7 +20,7 @@ use crate::lock_rows;
 use crate::locks::rows_stop;
 use crate::seqids::Turn;
 use crate::tables::Tables;
-use nm_rules::{Call, LockRow, Memory, OpStatus, Reply, ReplyValue, UnlockArgs, Verdict};
+use nm_types::{Call, LockRow, Memory, OpStatus, Reply, ReplyValue, UnlockArgs, Verdict};
 
 impl Tables {
     // The rows that it leaves.

@@ -9,10 +9,10 @@ use Rattle.std.proofs.lemmas.Bool.Decides.{nat_tests}
 use Rattle.nm_rules.specs.Checks.{refuse_if, arguments_fault, name_stop}
 use Rattle.nm_rules.specs.Contents.{TreeNow, size_limit, total_limit, file_at}
 use Rattle.nm_rules.specs.Names.{name_fault}
-use Rattle.nm_rules.specs.declared.status.OpStatus.{OpStatus}
-use Rattle.nm_rules.specs.declared.status.OpStatus.TheVariants.{Inval, FBig, NoSpc, Resource}
+use Rattle.nm_types.specs.declared.status.OpStatus.{OpStatus}
+use Rattle.nm_types.specs.declared.status.OpStatus.TheVariants.{Inval, FBig, NoSpc, Resource}
 use Rattle.nm_rules.specs.Files.{size_of, is_listed, listed}
-use Rattle.nm_rules.specs.declared.rows.FileRow.{FileRow}
+use Rattle.nm_types.specs.declared.rows.FileRow.{FileRow}
 use Rattle.nm_tree.specs.declared.listing.Listed.{Listed}
 use Rattle.nm_tree.specs.Rows.{total_with}
 use Rattle.nm_tree.specs.Answers.{listed_as, file_stop, size_with, write_stop, size_stop, make_stop, remove_stop, makes_end, changes_end}

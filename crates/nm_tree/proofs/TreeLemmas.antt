@@ -9,7 +9,7 @@ use Rattle.nm_rules.specs.Contents.TreeWord.{Made, Edited, Removed}
 use Rattle.nm_rules.specs.Contents.FileEdit.{Wrote, Set}
 use Rattle.nm_rules.specs.Files.{size_of}
 use Rattle.nm_rules.specs.Sound.{files_rise}
-use Rattle.nm_rules.specs.declared.rows.FileRow.{FileRow}
+use Rattle.nm_types.specs.declared.rows.FileRow.{FileRow}
 use Rattle.nm_rules.proofs.FileRows.{files_rise-map, files_rise-filter, files_rise-push, stamped_keeps, edited_keeps}
 use Rattle.nm_tree.specs.Rows.{IsTree, has_number, put_first, edit_first, resized, total_with}
 

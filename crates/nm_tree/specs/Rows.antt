@@ -4,7 +4,7 @@ use Rattle.nm_rules.specs.Contents.{TreeNow, FileEdit, edited, total_limit, tota
 use Rattle.nm_rules.specs.Contents.FileEdit.{Set}
 use Rattle.nm_rules.specs.Files.{size_of}
 use Rattle.nm_rules.specs.Sound.{files_rise}
-use Rattle.nm_rules.specs.declared.rows.FileRow.{FileRow}
+use Rattle.nm_types.specs.declared.rows.FileRow.{FileRow}
 
 -- What always holds of the tree: numbers rise, no counter is past the last value 2^63, and the bytes of all files are
 -- within their limit.

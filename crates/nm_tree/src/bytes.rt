@@ -3,7 +3,7 @@ ghost use Rattle.std.specs.Prelude.{◌≡◌, ◌≤◌, ◌+◌, ◌++◌, len
 ghost use Rattle.nm_rules.specs.Contents.{part, sized, written, size_limit, transfer_limit};
 ghost use Rattle.nm_tree.specs.Answers.{read_part};
 
-use nm_rules::{Bytes, Memory};
+use nm_types::{Bytes, Memory};
 use std::alloc::Global;
 
 /// So many bytes, or as many as there are.

@@ -3,7 +3,7 @@ ghost use Rattle.std.specs.Prelude.{◌≡◌, ◌≤◌, ◌+◌, length, nat_l
 ghost use Rattle.nm_rules.specs.Contents.{tree_after, is_directory, file_at, taken, total_size, total_limit, size_limit};
 ghost use Rattle.nm_rules.specs.Contents.TreeWord.{Removed};
 ghost use Rattle.nm_rules.specs.Files.{kind_number, size_of};
-ghost use Rattle.nm_rules.specs.declared.rows.FileKind.TheVariants as kind_of;
+ghost use Rattle.nm_types.specs.declared.rows.FileKind.TheVariants as kind_of;
 ghost use Rattle.nm_tree.specs.Answers.{Tells, find_answer, make_stop, make_answer, after_make, remove_stop, remove_answer, list_answer, attrs_answer, changes_end, makes_end, read_answer, size_with, write_stop, write_answer, after_write, size_stop, size_answer, after_size};
 ghost use Rattle.nm_tree.specs.Rows.{total_with};
 
@@ -13,7 +13,7 @@ use crate::checks::{dir_stop, file_stop, find_stop, has_entries, named_stop};
 use crate::listing::{Listing, listing_of};
 use crate::names::is_empty;
 use crate::rows::{bytes_at, parent_at, size_at};
-use nm_rules::{Bytes, FileAttrs, FileKind, FileRow, OpStatus, Refusal};
+use nm_types::{Bytes, FileAttrs, FileKind, FileRow, OpStatus, Refusal};
 
 // The last number of a change or a file.
 const LAST_NUMBER: u64 = 1 << 63;

@@ -5,7 +5,7 @@ ghost use Rattle.nm_tree.specs.Answers.{dir_stop, file_stop, named_stop, find_st
 
 use crate::names::name_stop;
 use crate::rows::{find_at, find_child};
-use nm_rules::{FileKind, FileRow, OpStatus};
+use nm_types::{FileKind, FileRow, OpStatus};
 
 /// The directory has to be there, and to be one.
 #[tactic(auto, unfolding(crate::specs::Answers::dir_stop, nm_rules::specs::Checks::is_no_dir, nm_rules::specs::Contents::is_directory))]

@@ -3,11 +3,11 @@ ghost use Rattle.std.specs.Prelude.{◌≡◌, ◌++◌, [], ◌∷◌, map, if�
 ghost use Rattle.nm_rules.specs.Files.{is_listed, listed};
 ghost use Rattle.nm_tree.specs.Answers.{listed_as};
 
-use nm_rules::{Bytes, FileRow, Items, Memory};
+use nm_types::{Bytes, FileRow, Items, Memory};
 use std::alloc::Global;
 
 /// A file or directory in the directory that is listed: its name and its number.
-#[derive(Debug, PartialEq, Eq, Drop)]
+#[derive(Drop)]
 pub struct Listed {
     pub name: Bytes,
     pub file: u64,

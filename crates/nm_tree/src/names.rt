@@ -6,7 +6,7 @@ ghost use Rattle.nm_rules.specs.Lists.{is_empty};
 ghost use Rattle.nm_rules.specs.Names.{parts_paths, is_bad_name, name_fault};
 ghost use Rattle.nm_rules.specs.Checks.{name_stop};
 
-use nm_rules::OpStatus;
+use nm_types::OpStatus;
 
 // Whether the name has a slash or a zero byte.
 fn has_separator(name: &[u8]) -> bool

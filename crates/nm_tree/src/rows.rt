@@ -8,7 +8,7 @@ ghost use Rattle.nm_tree.specs.Answers.{bytes_at};
 ghost use Rattle.nm_tree.specs.Rows.{has_number, put_first, edit_first, resized};
 
 use crate::bytes::{sized_bytes, written_bytes};
-use nm_rules::{Bytes, FileKind, FileRow, Memory};
+use nm_types::{Bytes, FileKind, FileRow, Memory};
 use std::alloc::Global;
 
 /// The row of that number.

@@ -10,13 +10,13 @@ ghost use Rattle.nm_tree.specs.Rows.{total_with};
 use crate::rows::{
     add_row, copy_rows, drop_rows, find_at, find_child, root_rows, set_rows, total, write_rows,
 };
-use nm_rules::{FileRow, Memory};
+use nm_types::{FileRow, Memory};
 use std::alloc::Global;
 use std::marker::Model;
 
 /// The files and directories of one file system by rising number, the greatest number that one was given, and the
 /// number of the latest change. The root is file 1, and the first one that is made has number 16.
-#[derive(Debug, Drop)]
+#[derive(Drop)]
 pub struct Tree {
     rows: Vec<FileRow>,
     last_file: u64,

@@ -13,7 +13,7 @@ use std::marker::Model;
 ///
 /// Contracts see how many bytes were taken, the place, and the bytes that are left. A take that answers a
 /// fault leaves both as they were. No take needs memory: what it answers lies in the bytes.
-#[derive(Debug, Drop)]
+#[derive(Drop)]
 pub struct Cursor<'a> {
     rest: &'a [u8],
     place: usize,

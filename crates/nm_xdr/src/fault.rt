@@ -10,7 +10,7 @@ use std::alloc::{AllocError, AllocFailed};
 ///
 /// `at` is a place: the number of bytes of the whole input that come before it. Where several things are
 /// wrong with an item, the fault is the first of TooLong, Short, Padding, Bool.
-#[derive(Clone, Copy, Debug, PartialEq, Eq)]
+#[derive(Clone, Copy, Debug)]
 pub enum XdrFault {
     /// The input ends before the item and its padding do.
     Short {
@@ -63,7 +63,7 @@ impl XdrFault {
 }
 
 /// There was no memory for what a call had to keep.
-#[derive(Clone, Copy, Debug, PartialEq, Eq)]
+#[derive(Clone, Copy, Debug)]
 pub struct Memory;
 
 impl From<AllocError> for Memory {

@@ -12,7 +12,7 @@ use std::marker::Model;
 /// Bytes behind which items are put, one after the other.
 ///
 /// Contracts see the bytes that were put so far. A put that answers Memory leaves them as they were.
-#[derive(Debug, Drop)]
+#[derive(Drop)]
 pub struct Writer {
     bytes: Vec<u8>,
 }

@@ -1,7 +1,7 @@
 use Rattle.std.proofs.Common.{rules, ◌≡◌, ◌==◌}
 use Rattle.std.specs.Prelude.{filter, not}
 use Rattle.std.proofs.lemmas.Fn.{filter_same}
-use Rattle.nm_rules.specs.declared.rows.OpenRow.{OpenRow}
+use Rattle.nm_types.specs.declared.rows.OpenRow.{OpenRow}
 use Rattle.nm_rules.proofs.OpenRows.{rises-filter}
 use Rattle.nm_shares.proofs.rows.drop_at.Goals as goal
 

@@ -1,6 +1,6 @@
 use Rattle.std.proofs.Common.{◌+◌, sym, ap, ◌∙◌}
 use Rattle.nm_rules.specs.Shares.{open_of}
-use Rattle.nm_rules.specs.declared.calls.Owner.{Owner}
+use Rattle.nm_types.specs.declared.calls.Owner.{Owner}
 use Rattle.nm_shares.proofs.RowLemmas.{took_joined, took_new}
 use Rattle.nm_shares.proofs.rows.take.Goals as goal
 

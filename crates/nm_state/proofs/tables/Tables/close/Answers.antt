@@ -1,4 +1,4 @@
-use Rattle.nm_rules.specs.declared.calls.Deed.TheVariants.{Close}
+use Rattle.nm_types.specs.declared.calls.Deed.TheVariants.{Close}
 use Rattle.nm_state.proofs.TurnLemmas.{call_is, close_turn, noted_as}
 use Rattle.nm_state.proofs.tables.Tables.close.Goals as goal
 

@@ -1,6 +1,6 @@
 use Rattle.std.proofs.Common.{refl}
-use Rattle.nm_rules.specs.declared.calls.Call.{Call}
-use Rattle.nm_rules.specs.declared.calls.Deed.TheVariants.{Close}
+use Rattle.nm_types.specs.declared.calls.Call.{Call}
+use Rattle.nm_types.specs.declared.calls.Deed.TheVariants.{Close}
 use Rattle.nm_state.proofs.WentLemmas.{changed_live, close_names, went_close, went_refused}
 use Rattle.nm_state.proofs.tables.Tables.close_in_turn.Goals as goal
 

@@ -1,6 +1,6 @@
 use Rattle.std.proofs.Common.{refl}
-use Rattle.nm_rules.specs.declared.calls.Call.{Call}
-use Rattle.nm_rules.specs.declared.calls.Deed.TheVariants.{Close}
+use Rattle.nm_types.specs.declared.calls.Call.{Call}
+use Rattle.nm_types.specs.declared.calls.Deed.TheVariants.{Close}
 use Rattle.nm_state.proofs.WentLemmas.{close_names, told_close, went_refused}
 use Rattle.nm_state.proofs.tables.Tables.close_reply.Goals as goal
 

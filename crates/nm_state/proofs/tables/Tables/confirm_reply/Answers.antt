@@ -1,6 +1,6 @@
 use Rattle.std.proofs.Common.{refl}
-use Rattle.nm_rules.specs.declared.calls.Call.{Call}
-use Rattle.nm_rules.specs.declared.calls.Deed.TheVariants.{OpenConfirm}
+use Rattle.nm_types.specs.declared.calls.Call.{Call}
+use Rattle.nm_types.specs.declared.calls.Deed.TheVariants.{OpenConfirm}
 use Rattle.nm_state.proofs.WentLemmas.{confirm_names, told_confirm, went_refused}
 use Rattle.nm_state.proofs.tables.Tables.confirm_reply.Goals as goal
 

@@ -1,4 +1,4 @@
-use Rattle.nm_rules.specs.declared.calls.Deed.TheVariants.{OpenDowngrade}
+use Rattle.nm_types.specs.declared.calls.Deed.TheVariants.{OpenDowngrade}
 use Rattle.nm_state.proofs.TurnLemmas.{call_is, downgrade_turn, told_as}
 use Rattle.nm_state.proofs.tables.Tables.downgrade_answer.Goals as goal
 

@@ -1,6 +1,6 @@
 use Rattle.std.proofs.Common.{refl}
-use Rattle.nm_rules.specs.declared.calls.Call.{Call}
-use Rattle.nm_rules.specs.declared.calls.Deed.TheVariants.{OpenDowngrade}
+use Rattle.nm_types.specs.declared.calls.Call.{Call}
+use Rattle.nm_types.specs.declared.calls.Deed.TheVariants.{OpenDowngrade}
 use Rattle.nm_state.proofs.WentLemmas.{changed_live, downgrade_names, went_downgrade, went_refused, downgrade_narrows}
 use Rattle.nm_state.proofs.tables.Tables.downgrade_in_turn.Goals as goal
 

@@ -1,6 +1,6 @@
 use Rattle.std.proofs.Common.{refl}
-use Rattle.nm_rules.specs.declared.calls.Call.{Call}
-use Rattle.nm_rules.specs.declared.calls.Deed.TheVariants.{OpenDowngrade}
+use Rattle.nm_types.specs.declared.calls.Call.{Call}
+use Rattle.nm_types.specs.declared.calls.Deed.TheVariants.{OpenDowngrade}
 use Rattle.nm_state.proofs.WentLemmas.{downgrade_names, told_downgrade, went_refused}
 use Rattle.nm_state.proofs.tables.Tables.downgrade_reply.Goals as goal
 

@@ -1,4 +1,4 @@
-use Rattle.nm_rules.specs.declared.calls.Deed.TheVariants.{Open}
+use Rattle.nm_types.specs.declared.calls.Deed.TheVariants.{Open}
 use Rattle.nm_state.proofs.TurnLemmas.{nobody_opens, open_is, open_let_pass, open_turn, told_as}
 use Rattle.nm_state.proofs.tables.Tables.open_answer.Goals as goal
 

@@ -1,6 +1,6 @@
 use Rattle.std.proofs.Common.{Some, refl}
-use Rattle.nm_rules.specs.declared.calls.Call.{Call}
-use Rattle.nm_rules.specs.declared.calls.Deed.TheVariants.{Open}
+use Rattle.nm_types.specs.declared.calls.Call.{Call}
+use Rattle.nm_types.specs.declared.calls.Deed.TheVariants.{Open}
 use Rattle.nm_state.proofs.WentLemmas.{told_open, went_refused}
 use Rattle.nm_state.proofs.tables.Tables.open_reply.Goals as goal
 

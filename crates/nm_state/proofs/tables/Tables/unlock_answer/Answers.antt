@@ -1,4 +1,4 @@
-use Rattle.nm_rules.specs.declared.calls.Deed.TheVariants.{Unlock}
+use Rattle.nm_types.specs.declared.calls.Deed.TheVariants.{Unlock}
 use Rattle.nm_state.proofs.TurnLemmas.{call_is, told_as, unlock_turn}
 use Rattle.nm_state.proofs.tables.Tables.unlock_answer.Goals as goal
 

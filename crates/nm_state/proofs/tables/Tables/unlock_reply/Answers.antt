@@ -1,6 +1,6 @@
 use Rattle.std.proofs.Common.{refl}
-use Rattle.nm_rules.specs.declared.calls.Call.{Call}
-use Rattle.nm_rules.specs.declared.calls.Deed.TheVariants.{Unlock}
+use Rattle.nm_types.specs.declared.calls.Call.{Call}
+use Rattle.nm_types.specs.declared.calls.Deed.TheVariants.{Unlock}
 use Rattle.nm_state.proofs.LockLemmas.{told_unlock, unlock_names}
 use Rattle.nm_state.proofs.WentLemmas.{went_refused}
 use Rattle.nm_state.proofs.tables.Tables.unlock_reply.Goals as goal

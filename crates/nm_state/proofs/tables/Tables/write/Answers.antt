@@ -1,7 +1,7 @@
 use Rattle.std.proofs.Common.{refl}
 use Rattle.nm_rules.specs.Past.{seqid_owner}
-use Rattle.nm_rules.specs.declared.calls.Call.{Call}
-use Rattle.nm_rules.specs.declared.calls.Deed.TheVariants.{Write}
+use Rattle.nm_types.specs.declared.calls.Call.{Call}
+use Rattle.nm_types.specs.declared.calls.Deed.TheVariants.{Write}
 use Rattle.nm_state.proofs.AppliedLemmas.{applied_write, write_goes}
 use Rattle.nm_state.proofs.OpeningLemmas.{applied_refused}
 use Rattle.nm_state.proofs.tables.Tables.write.Goals as goal

@@ -1,5 +1,5 @@
 use Rattle.std.proofs.Common.{sym, subst, List}
-use Rattle.nm_rules.specs.declared.rows.FileRow.{FileRow}
+use Rattle.nm_types.specs.declared.rows.FileRow.{FileRow}
 use Rattle.nm_tree.specs.Rows.{IsTree}
 use Rattle.nm_tree.proofs.TreeLemmas.{empty_is}
 use Rattle.nm_tree.proofs.tree.Tree.new.Goals as goal

@@ -1,0 +1,2 @@
+pub mod PartyLemmas
+pub mod WireLaws
