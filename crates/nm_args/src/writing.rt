@@ -18,12 +18,12 @@ pub fn write_compound(alloc: Global, value: &Compound) -> Result<Vec<u8>, Memory
     ensures { IfOk result (λ bytes. bytes.items ≡ compound value.now) }
 {
     let mut writer = Writer::new(alloc);
-    put_compound(&mut writer, value).map_err(|_| Memory)?;
+    put_compound(&mut writer, value)?;
     Ok(writer.finish())
 }
 
 #[tactic(auto, unfolding(crate::specs::Compounds::compound))]
-fn put_compound(writer: &mut Writer, value: &Compound) -> Result<(), nm_xdr::Memory>
+fn put_compound(writer: &mut Writer, value: &Compound) -> Result<(), Memory>
     requires { CanBeWritten value.now }
     ensures { OnOk result (writer.new ≡ writer.old ++ compound value.now) }
 {
@@ -33,7 +33,7 @@ fn put_compound(writer: &mut Writer, value: &Compound) -> Result<(), nm_xdr::Mem
     put_operations(writer, value.ops.items())
 }
 
-fn put_operations(writer: &mut Writer, ops: &[Op]) -> Result<(), nm_xdr::Memory>
+fn put_operations(writer: &mut Writer, ops: &[Op]) -> Result<(), Memory>
     requires { All IsOp ops.now }
     ensures { OnOk result (writer.new ≡ writer.old ++ flat_map operation ops.now) }
 {

@@ -149,7 +149,7 @@ fn take_words(alloc: Global, cursor: &mut Cursor<'_>, count: u32) -> Result<Bitm
 }
 
 /// Puts a bitmap: its count of words, and the words.
-pub fn put_bitmap(writer: &mut Writer, words: &[u32]) -> Result<(), nm_xdr::Memory>
+pub fn put_bitmap(writer: &mut Writer, words: &[u32]) -> Result<(), Memory>
     requires { length words.now < 2 ^ 32 }
     ensures { OnOk result (writer.new ≡ writer.old ++ bitmap words.now) }
 {
@@ -157,7 +157,7 @@ pub fn put_bitmap(writer: &mut Writer, words: &[u32]) -> Result<(), nm_xdr::Memo
     put_words(writer, words)
 }
 
-fn put_words(writer: &mut Writer, words: &[u32]) -> Result<(), nm_xdr::Memory>
+fn put_words(writer: &mut Writer, words: &[u32]) -> Result<(), Memory>
     ensures { OnOk result (writer.new ≡ writer.old ++ flat_map word words.now) }
 {
     for word in words {

@@ -28,7 +28,7 @@ fn bytes_of_attrs(alloc: Global, attrs: &[Attr]) -> Result<Vec<u8>, Memory>
     requires { AreAttrs attrs.now }
     ensures { IfOk result (λ bytes. bytes.items ≡ fattr_bytes attrs.now) }
 {
-    let bitmap = Bitmap::of_mask(alloc, mask_of_attrs(attrs)).map_err(|_| Memory)?;
+    let bitmap = Bitmap::of_mask(alloc, mask_of_attrs(attrs))?;
     let values = values_of_attrs(alloc, attrs)?;
     let mut writer = Writer::new(alloc);
     put_bitmap(&mut writer, bitmap.items())?;

@@ -25,7 +25,7 @@ pub fn write_recall(
     ensures { IfOk result (λ bytes. bytes.items ≡ recall xid program ident state handle) }
 {
     let mut writer = Writer::new(alloc);
-    put_recall(&mut writer, ident, &state, handle).map_err(|_| Memory)?;
+    put_recall(&mut writer, ident, &state, handle)?;
     let body = writer.finish();
     let head = CallHead {
         xid,
@@ -46,7 +46,7 @@ fn put_recall(
     ident: u32,
     state: &StateId,
     handle: Handle,
-) -> Result<(), nm_xdr::Memory>
+) -> Result<(), Memory>
     ensures { OnOk result (writer.new ≡ writer.old ++ body (compound [] 0 ident (recalls state.now false handle))) }
 {
     writer.put_opaque(&[])?;
@@ -73,14 +73,14 @@ pub fn write_callback_reply(
     ensures { IfOk result (λ bytes. bytes.items ≡ callback_reply xid op status) }
 {
     let mut writer = Writer::new(alloc);
-    put_result(&mut writer, op, status).map_err(|_| Memory)?;
+    put_result(&mut writer, op, status)?;
     let body = writer.finish();
     write_reply(alloc, xid, &body)
 }
 
 // What stands behind the header of a reply.
 #[tactic(auto, unfolding(crate::specs::Callbacks::result_body))]
-fn put_result(writer: &mut Writer, op: u32, status: OpStatus) -> Result<(), nm_xdr::Memory>
+fn put_result(writer: &mut Writer, op: u32, status: OpStatus) -> Result<(), Memory>
     ensures { OnOk result (writer.new ≡ writer.old ++ result_body op status) }
 {
     writer.put_u32(status.number())?;

@@ -27,9 +27,3 @@ impl From<nm_types::Memory> for Fault {
         Fault::Memory
     }
 }
-
-impl From<nm_xdr::Memory> for Fault {
-    fn from(_: nm_xdr::Memory) -> Fault {
-        Fault::Memory
-    }
-}

@@ -20,12 +20,12 @@ pub fn write_results(alloc: Global, value: &Results) -> Result<Vec<u8>, Memory>
     ensures { IfOk result (λ bytes. bytes.items ≡ results_bytes value.now) }
 {
     let mut writer = Writer::new(alloc);
-    put_results(&mut writer, value).map_err(|_| Memory)?;
+    put_results(&mut writer, value)?;
     Ok(writer.finish())
 }
 
 #[tactic(auto, unfolding(crate::specs::Results::results_bytes))]
-fn put_results(writer: &mut Writer, value: &Results) -> Result<(), nm_xdr::Memory>
+fn put_results(writer: &mut Writer, value: &Results) -> Result<(), Memory>
     requires { AreResults value.now }
     ensures { OnOk result (writer.new ≡ writer.old ++ results_bytes value.now) }
 {
@@ -36,7 +36,7 @@ fn put_results(writer: &mut Writer, value: &Results) -> Result<(), nm_xdr::Memor
 }
 
 // The results, one after the other.
-fn put_each(writer: &mut Writer, results: &[OpResult]) -> Result<(), nm_xdr::Memory>
+fn put_each(writer: &mut Writer, results: &[OpResult]) -> Result<(), Memory>
     requires { All IsOpResult results.now }
     ensures { OnOk result (writer.new ≡ writer.old ++ flat_map result_bytes results.now) }
 {
@@ -47,7 +47,7 @@ fn put_each(writer: &mut Writer, results: &[OpResult]) -> Result<(), nm_xdr::Mem
 }
 
 #[tactic(auto, unfolding(crate::specs::Results::result_bytes))]
-fn put_result(writer: &mut Writer, value: &OpResult) -> Result<(), nm_xdr::Memory>
+fn put_result(writer: &mut Writer, value: &OpResult) -> Result<(), Memory>
     requires { IsOpResult value.now }
     ensures { OnOk result (writer.new ≡ writer.old ++ result_bytes value.now) }
 {

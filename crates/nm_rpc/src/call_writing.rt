@@ -32,16 +32,14 @@ fn credential_of_head(alloc: Global, head: &CallHead) -> Result<Vec<u8>, Memory>
 {
     let mut writer = Writer::new(alloc);
     if head.principal.flavor != 0 {
-        put_sys_credential(&mut writer, head.machine.items(), head.principal.uid).map_err(
-            |_| Memory,
-        )?;
+        put_sys_credential(&mut writer, head.machine.items(), head.principal.uid)?;
     }
     Ok(writer.finish())
 }
 
 // Stamp and gid are 0, and there are no gids.
 #[tactic(auto, unfolding(crate::specs::Messages::sys_credential))]
-fn put_sys_credential(writer: &mut Writer, machine: &[u8], uid: u32) -> Result<(), nm_xdr::Memory>
+fn put_sys_credential(writer: &mut Writer, machine: &[u8], uid: u32) -> Result<(), Memory>
     requires { length machine.now ≤ 255 }
     ensures { OnOk result (writer.new ≡ writer.old ++ sys_credential (record { stamp = 0; machine = machine.now; uid = uid; gid = 0; gids = [] })) }
 {
@@ -70,6 +68,6 @@ fn written_header(alloc: Global, head: &CallHead, credential: &[u8]) -> Result<V
         verifier_flavor: 0,
         verifier: &[],
     };
-    put_header(&mut writer, &header).map_err(|_| Memory)?;
+    put_header(&mut writer, &header)?;
     Ok(writer.finish())
 }

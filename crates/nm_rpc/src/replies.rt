@@ -160,7 +160,7 @@ pub fn write_reply(alloc: Global, xid: u32, body: &[u8]) -> Result<Vec<u8>, Memo
     ensures { IfOk result (λ bytes. bytes.items ≡ reply xid (done body.now)) }
 {
     let mut writer = Writer::new(alloc);
-    put_accepted(&mut writer, xid, 0).map_err(|_| Memory)?;
+    put_accepted(&mut writer, xid, 0)?;
     let mut bytes = writer.finish();
     bytes.extend_from_slice(body)?;
     Ok(bytes)
@@ -183,12 +183,12 @@ pub fn write_refusal(alloc: Global, fault: &CallFault) -> Result<Option<Vec<u8>>
         CallFault::Proc { xid } => put_accepted(&mut writer, xid, 3),
         CallFault::Garbage { xid, .. } => put_accepted(&mut writer, xid, 4),
     };
-    put.map_err(|_| Memory)?;
+    put?;
     Ok(Some(writer.finish()))
 }
 
 #[tactic(auto, unfolding(crate::specs::Replies::accepted))]
-fn put_accepted(writer: &mut Writer, xid: u32, stat: u32) -> Result<(), nm_xdr::Memory>
+fn put_accepted(writer: &mut Writer, xid: u32, stat: u32) -> Result<(), Memory>
     ensures { OnOk result (writer.new ≡ writer.old ++ accepted xid stat) }
 {
     writer.put_u32(xid)?;
@@ -200,7 +200,7 @@ fn put_accepted(writer: &mut Writer, xid: u32, stat: u32) -> Result<(), nm_xdr::
 }
 
 #[tactic(auto, unfolding(crate::specs::Replies::denied))]
-fn put_denied(writer: &mut Writer, xid: u32, stat: u32) -> Result<(), nm_xdr::Memory>
+fn put_denied(writer: &mut Writer, xid: u32, stat: u32) -> Result<(), Memory>
     ensures { OnOk result (writer.new ≡ writer.old ++ denied xid stat) }
 {
     writer.put_u32(xid)?;
@@ -210,12 +210,7 @@ fn put_denied(writer: &mut Writer, xid: u32, stat: u32) -> Result<(), nm_xdr::Me
 }
 
 #[tactic(auto, unfolding(crate::specs::Replies::reply))]
-fn put_other_versions(
-    writer: &mut Writer,
-    xid: u32,
-    low: u32,
-    high: u32,
-) -> Result<(), nm_xdr::Memory>
+fn put_other_versions(writer: &mut Writer, xid: u32, low: u32, high: u32) -> Result<(), Memory>
     ensures { OnOk result (writer.new ≡ writer.old ++ reply xid (other_versions low high)) }
 {
     put_accepted(writer, xid, 2)?;
@@ -224,7 +219,7 @@ fn put_other_versions(
 }
 
 #[tactic(auto, unfolding(crate::specs::Replies::reply))]
-fn put_other_rpc(writer: &mut Writer, xid: u32) -> Result<(), nm_xdr::Memory>
+fn put_other_rpc(writer: &mut Writer, xid: u32) -> Result<(), Memory>
     ensures { OnOk result (writer.new ≡ writer.old ++ reply xid (other_rpc 2 2)) }
 {
     put_denied(writer, xid, 0)?;
@@ -233,7 +228,7 @@ fn put_other_rpc(writer: &mut Writer, xid: u32) -> Result<(), nm_xdr::Memory>
 }
 
 #[tactic(auto, unfolding(crate::specs::Replies::reply))]
-fn put_unknown_caller(writer: &mut Writer, xid: u32) -> Result<(), nm_xdr::Memory>
+fn put_unknown_caller(writer: &mut Writer, xid: u32) -> Result<(), Memory>
     ensures { OnOk result (writer.new ≡ writer.old ++ reply xid (unknown_caller 1)) }
 {
     put_denied(writer, xid, 1)?;

@@ -2,6 +2,7 @@
 use Rattle.std.proofs.Common.{◌≡◌, ◌<◌, ◌≤◌, ℕ, ◌+◌, Bool, true, false, cond, List, [], ◌∷◌, ◌++◌, Option, Some, None, refl, ap, sym, ◌∙◌, arith, eqb-true}
 use Rattle.std.specs.Prelude.{map, nat_lt, option_map, ◌==◌}
 use Rattle.std.proofs.lemmas.Bool.Decides.{nat_tests}
+use Rattle.std.proofs.lemmas.Bool.{and_parts}
 use Rattle.nm_rules.specs.Shares.{put_open, put_if, open_at, open_of, opened_row, opens_after}
 use Rattle.nm_rules.specs.Sound.{rises}
 use Rattle.nm_types.specs.declared.rows.OpenRow.{OpenRow}
@@ -9,7 +10,7 @@ use Rattle.nm_types.specs.declared.calls.Owner.{Owner}
 use Rattle.nm_shares.specs.Rows.{row_to_take, last_after, state_of, changed_row, changed_at, ChangedTo, Took}
 use Rattle.nm_shares.specs.declared.rows.Change.{Change}
 use Rattle.nm_shares.specs.declared.rows.Change.TheVariants.{Joined}
-use Rattle.nm_rules.proofs.OpenRows.{and_parts, in-open_at, open_at-in, rises-le, rises-put_new, rises-put_old}
+use Rattle.nm_rules.proofs.OpenRows.{in-open_at, open_at-in, rises-le, rises-put_new, rises-put_old}
 use Rattle.nm_rules.proofs.Apart.{open_of-in}
 
 -- Rows past a counter aren't changed by it.

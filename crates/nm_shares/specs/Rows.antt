@@ -7,8 +7,8 @@ use Rattle.nm_rules.specs.Shares.{next_seqid, open_at, open_of, opened_row, rene
 use Rattle.nm_rules.specs.Shares.OpenWord.{Drop, DropOf}
 use Rattle.nm_types.specs.declared.calls.Owner.{Owner}
 use Rattle.nm_types.specs.declared.rows.OpenRow.{OpenRow}
-use Rattle.nm_types.specs.declared.memory.Refusal.{Refusal}
-use Rattle.nm_types.specs.declared.memory.Refusal.TheVariants.{Status, Memory}
+use Rattle.nm_types.specs.declared.refusal.Refusal.{Refusal}
+use Rattle.nm_types.specs.declared.refusal.Refusal.TheVariants.{Status, Memory}
 use Rattle.nm_types.specs.declared.status.OpStatus.{OpStatus}
 use Rattle.nm_types.specs.declared.status.OpStatus.TheVariants.{Inval, ShareDenied}
 use Rattle.nm_shares.specs.declared.rows.Change.{Change}

@@ -9,7 +9,7 @@ use Rattle.nm_types.specs.declared.calls.Event.TheVariants.{Ended}
 use Rattle.nm_types.specs.declared.calls.Reply.{Reply}
 use Rattle.nm_types.specs.declared.calls.StateId.{StateId}
 use Rattle.nm_types.specs.declared.calls.StateRef.TheVariants.{Named}
-use Rattle.nm_types.specs.declared.memory.Memory.{Memory}
+use Rattle.nm_memory.specs.declared.Memory.{Memory}
 use Rattle.nm_types.specs.declared.rows.LockRow.{LockRow}
 use Rattle.nm_types.specs.declared.rows.OpenRow.{OpenRow}
 use Rattle.nm_types.specs.declared.status.OpStatus.{OpStatus}

@@ -1,10 +1,8 @@
-//! What can be wrong with the bytes of an item, and want of memory.
+//! What can be wrong with the bytes of an item.
 
 ghost use Rattle.std.specs.Prelude.{◌≡◌, ℕ, ◌-◌, ◌≤◌};
 ghost use Rattle.nm_xdr.specs.Fields.{of_whole};
 ghost use Rattle.nm_xdr.specs.Places.{fault_of, place_of};
-
-use std::alloc::{AllocError, AllocFailed};
 
 /// Why bytes aren't the item that was asked for.
 ///
@@ -59,21 +57,5 @@ impl XdrFault {
             XdrFault::Short { at: _ } => XdrFault::Short { at: start },
             _ => self,
         }
-    }
-}
-
-/// There was no memory for what a call had to keep.
-#[derive(Clone, Copy, Debug)]
-pub struct Memory;
-
-impl From<AllocError> for Memory {
-    fn from(_e: AllocError) -> Memory {
-        Memory
-    }
-}
-
-impl<T: Drop> From<AllocFailed<T>> for Memory {
-    fn from(_e: AllocFailed<T>) -> Memory {
-        Memory
     }
 }

@@ -30,9 +30,10 @@ mod laws;
 mod writer;
 
 pub use cursor::Cursor;
-pub use fault::{Memory, XdrFault};
+pub use fault::XdrFault;
 pub use laws::{
     cut_items_are_short, items_are_read_as_spelled, one_spelling, rows_are_read_as_spelled,
     takes_are_exact,
 };
+pub use nm_memory::Memory;
 pub use writer::Writer;

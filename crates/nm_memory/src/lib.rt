@@ -1,0 +1,20 @@
+//! Want of memory, the one answer that no clause ties to a cause. Every crate that asks for memory answers this one type.
+#![tactic(auto)]
+
+use std::alloc::{AllocError, AllocFailed};
+
+/// Want of memory: an allocation failed.
+#[derive(Clone, Copy, Debug)]
+pub struct Memory;
+
+impl From<AllocError> for Memory {
+    fn from(_: AllocError) -> Self {
+        Memory
+    }
+}
+
+impl<T: Drop> From<AllocFailed<T>> for Memory {
+    fn from(_: AllocFailed<T>) -> Self {
+        Memory
+    }
+}
