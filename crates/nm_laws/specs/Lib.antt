@@ -1,0 +1,6 @@
+pub mod SeqidCalls
+pub mod ToldRanges
+pub mod DataReadings
+pub mod StateidNow
+pub mod StateidRows
+pub mod TreeReadings
