@@ -86,6 +86,9 @@ pub fn replay<S: Source, K: Sink>(
     ensures words_first { are_replay (map string_bytes words.now) ≡ false → IsUsageOrWriteFault result }
     // The source failed in this call, and nothing was written.
     ensures read_fault { result ≡ Status.ReadFault → HasRisen (S.faults source.old) (S.faults source.new) × (K.held sink.new ≡ K.held sink.old) }
+    // A source that fails leaves the sink's count, and other words leave the source's.
+    ensures sink_unasked { result ≡ Status.ReadFault → K.faults sink.new ≡ K.faults sink.old }
+    ensures source_unasked { are_replay (map string_bytes words.now) ≡ false → S.faults source.new ≡ S.faults source.old }
     // The sink failed in this call, and a part of what was to be written stands, from its first byte on.
     ensures write_fault { result ≡ Status.WriteFault → IsCutShort (are_replay (map string_bytes words.now)) (S.left source.old) (K.held sink.old) (K.held sink.new) (K.faults sink.old) (K.faults sink.new) }
     // Nothing was written.

@@ -1,6 +1,6 @@
 -- Rows of one table that stand together: of one file they have different owners, whose shares don't conflict.
 use Rattle.std.proofs.Common.{◌≡◌, ◌≢◌, ◌<◌, ℕ, Bool, true, false, cond, List, [], ◌∷◌, Option, Some, None, refl, ap, sym, ◌∙◌, inl, inr, arith, eqb-true}
-use Rattle.std.proofs.lemmas.Bool.{eqb-false}
+use Rattle.std.proofs.lemmas.Bool.{eqb-false, or_parts, and_from, and_parts, or_from}
 use Rattle.std.proofs.lemmas.Bool.{false≢true}
 use Rattle.std.proofs.Math.Bool.{or_comm}
 use Rattle.std.proofs.lemmas.Nat.{and_or_apart, and_comm}
@@ -13,7 +13,7 @@ use Rattle.nm_rules.specs.Sound.{rises, are_apart, all_apart}
 use Rattle.nm_types.specs.declared.calls.Owner.{Owner}
 use Rattle.nm_types.specs.declared.rows.OpenRow.{OpenRow}
 use Rattle.nm_rules.proofs.OwnerLemmas.{same_owner-sym, same_owner-Decides}
-use Rattle.nm_rules.proofs.OpenRows.{IsIn, and_parts, in-open_at, in-filter}
+use Rattle.nm_rules.proofs.OpenRows.{IsIn, in-open_at, in-filter}
 
 -- A test that holds of all rows holds of each, and the other way round.
 pub all_in : (p : OpenRow → Bool) (rows : List OpenRow) (x : OpenRow) → list_all p rows ≡ true → IsIn x rows → p x ≡ true
@@ -21,12 +21,9 @@ all_in p [] x all none = absurd none
 all_in p (y ∷ ys) x all (inl here) = ap p here ∙ (and_parts (p y) (list_all p ys) all).0
 all_in p (y ∷ ys) x all (inr there) = all_in p ys x (and_parts (p y) (list_all p ys) all).1 there
 
-both : (a b : Bool) → a ≡ true → b ≡ true → (a && b) ≡ true
-both a b x y = rw (x, y) refl
-
 pub all_from : (p : OpenRow → Bool) (rows : List OpenRow) → ((x : OpenRow) → IsIn x rows → p x ≡ true) → list_all p rows ≡ true
 all_from p [] each = refl
-all_from p (y ∷ ys) each = both (p y) (list_all p ys) (each y (inl refl)) (all_from p ys (λ x within. each x (inr within)))
+all_from p (y ∷ ys) each = and_from (p y) (list_all p ys) (each y (inl refl)) (all_from p ys (λ x within. each x (inr within)))
 
 -- a test that holds of no row holds of none of them
 pub none_in : (p : OpenRow → Bool) (rows : List OpenRow) (x : OpenRow) → list_any p rows ≡ false → IsIn x rows → p x ≡ false
@@ -66,7 +63,7 @@ all_apart-filter p [] all = refl
 all_apart-filter p (y ∷ ys) all = by_head (p y) (all_apart-filter p ys (and_parts (list_all (are_apart y) ys) (all_apart ys) all).1)
   where
     by_head : (b : Bool) → all_apart (filter p ys) ≡ true → all_apart (cond b (y ∷ filter p ys) (filter p ys)) ≡ true
-    by_head true later = both (list_all (are_apart y) (filter p ys)) (all_apart (filter p ys))
+    by_head true later = and_from (list_all (are_apart y) (filter p ys)) (all_apart (filter p ys))
         (all_from (are_apart y) (filter p ys) (λ x within. all_in (are_apart y) ys x (and_parts (list_all (are_apart y) ys) (all_apart ys) all).0 (in-filter p ys x within).0))
         later
     by_head false later = later
@@ -77,13 +74,13 @@ Suits row rows = (x : OpenRow) → IsIn x rows → x.counter ≢ row.counter →
 
 -- what holds of all rows and of the row that is put holds of all after it
 pub all_put : (p : OpenRow → Bool) (row : OpenRow) (rows : List OpenRow) → list_all p rows ≡ true → p row ≡ true → list_all p (put_open row rows) ≡ true
-all_put p row [] all it = both (p row) true it refl
+all_put p row [] all it = and_from (p row) true it refl
 all_put p row (y ∷ ys) all it = by_head (y.counter == row.counter)
     (all_put p row ys (and_parts (p y) (list_all p ys) all).1 it)
   where
     by_head : (b : Bool) → list_all p (put_open row ys) ≡ true → list_all p (cond b (row ∷ ys) (y ∷ put_open row ys)) ≡ true
-    by_head true later = both (p row) (list_all p ys) it (and_parts (p y) (list_all p ys) all).1
-    by_head false later = both (p y) (list_all p (put_open row ys)) (and_parts (p y) (list_all p ys) all).0 later
+    by_head true later = and_from (p row) (list_all p ys) it (and_parts (p y) (list_all p ys) all).1
+    by_head false later = and_from (p y) (list_all p (put_open row ys)) (and_parts (p y) (list_all p ys) all).0 later
 
 -- A put of a row that is apart from the others leaves all apart.
 pub all_apart-put : (above last : ℕ) (row : OpenRow) (rows : List OpenRow) → rises above last rows ≡ true → all_apart rows ≡ true → Suits row rows → all_apart (put_open row rows) ≡ true
@@ -96,10 +93,10 @@ all_apart-put above last row (y ∷ ys) rising all suits =
     later_counter x within = (in-open_at y.counter last ys x (and_parts (nat_lt above y.counter) (rises y.counter last ys) rising).1 within).1
 
     by_head : (b : Bool) → (y.counter == row.counter) ≡ b → all_apart (put_open row ys) ≡ true → all_apart (cond b (row ∷ ys) (y ∷ put_open row ys)) ≡ true
-    by_head true same later = both (list_all (are_apart row) ys) (all_apart ys)
+    by_head true same later = and_from (list_all (are_apart row) ys) (all_apart ys)
         (all_from (are_apart row) ys (λ x within. suits x (inr within) (λ e. let past : y.counter < x.counter = later_counter x within in absurd (omega (arith, e, eqb-true y.counter row.counter same)))))
         (and_parts (list_all (are_apart y) ys) (all_apart ys) all).1
-    by_head false other later = both (list_all (are_apart y) (put_open row ys)) (all_apart (put_open row ys))
+    by_head false other later = and_from (list_all (are_apart y) (put_open row ys)) (all_apart (put_open row ys))
         (all_put (are_apart y) row ys (and_parts (list_all (are_apart y) ys) (all_apart ys) all).0
         (are_apart-sym y row ∙ suits y (inl refl) (eqb-false y.counter row.counter other)))
         later
@@ -133,14 +130,6 @@ meets_apart n h = grind (arith, nat_tests)
 apart_meets : (n : ℕ) → n ≡ 0 → not (n == 0) ≡ false
 apart_meets n h = grind (arith, nat_tests)
 
--- neither holds where their disjunction doesn't
-or_parts : (a b : Bool) → (a || b) ≡ false → (a ≡ false) × (b ≡ false)
-or_parts false b h = (refl, h)
-or_parts true b h = absurd (false≢true (sym h))
-
-neither : (a b : Bool) → a ≡ false → b ≡ false → (a || b) ≡ false
-neither a b x y = rw (x, y) refl
-
 -- Two shares that each don't conflict with a third don't conflict with it together.
 meets-or : (a b deny : ℕ) → meets a deny ≡ false → meets b deny ≡ false → meets (bit_or a b) deny ≡ false
 meets-or a b deny first second =
@@ -157,10 +146,10 @@ pub joined_apart : (access deny more more_deny its_access its_deny : ℕ)
 joined_apart access deny more more_deny its_access its_deny first second =
     let a = or_parts (meets access its_deny) (meets its_access deny) first in
     let b = or_parts (meets more its_deny) (meets its_access more_deny) second in
-    neither (meets (bit_or access more) its_deny) (meets its_access (bit_or deny more_deny))
+    or_from (meets (bit_or access more) its_deny) (meets its_access (bit_or deny more_deny))
     (meets-or access more its_deny a.0 b.0) (meets_either deny more_deny its_access a.1 b.1)
 
-same_test : (m n : ℕ) → (m == n) ≡ (n == m)
+pub same_test : (m n : ℕ) → (m == n) ≡ (n == m)
 same_test m n = grind (arith, nat_tests)
 
 new_apart : (f g o c : Bool) → f ≡ g → ((g && not o) && c) ≡ false → (g && o) ≡ false → cond f (not o && not c) true ≡ true
@@ -235,6 +224,6 @@ narrowed_suits row access deny rows all at less_access less_deny x within ne =
     (apart_in rows row x all at within (λ e. ne (sym e)))
     (λ apart.
     let parts = or_parts (meets row.access x.deny) (meets x.access row.deny) apart in
-    neither (meets access x.deny) (meets x.access deny)
+    or_from (meets access x.deny) (meets x.access deny)
     (part_meets access row.access x.deny less_access parts.0)
     (meets_part deny row.deny x.access less_deny parts.1))

@@ -491,7 +491,7 @@ entry_fresh s k (Asked call verdict) sound = by_stop (first (checks s call.calle
 read_of : Past → ℕ → Read
 read_of es k = record { byte = byte_of es k; size = size_of es k; mode = mode_of es k; name = name_of es k; dir = dir_of es k }
 
-found_number : (k : ℕ) (rows : List FileRow) (row : FileRow) → file_at k rows ≡ Some row → row.number ≡ k
+pub found_number : (k : ℕ) (rows : List FileRow) (row : FileRow) → file_at k rows ≡ Some row → row.number ≡ k
 unfolding file_at
 found_number k [] row found = cc
 found_number k (x ∷ xs) row found = by_test (x.number == k) refl found (found_number k xs row)

@@ -2,13 +2,12 @@
 use Rattle.std.proofs.Common.{◌≡◌, ℕ, ◌+◌, Bool, true, false, cond, List, [], ◌∷◌, ◌++◌, Option, Some, None, refl, ap, sym, ◌∙◌, arith, eqb-true}
 use Rattle.std.specs.Prelude.{find, option_map, map, filter, not, ◌&&◌, ◌==◌, ◌<◌, ◌≤◌}
 use Rattle.std.specs.Str.{bytes_eq}
-use Rattle.std.proofs.lemmas.Bool.{false≢true, true≢false}
+use Rattle.std.proofs.lemmas.Bool.{false≢true, true≢false, and_parts}
 use Rattle.std.proofs.lemmas.Bool.Decides.{nat_tests}
 use Rattle.std.proofs.lemmas.Slice.Eq.{bytes_eq-Decides}
 use Rattle.nm_rules.specs.Contents.{file_at, child_at, is_named, stamped, edited_at, edited, FileEdit}
 use Rattle.nm_rules.specs.Contents.FileEdit.{Wrote, Set}
 use Rattle.nm_rules.specs.Sound.{files_rise}
-use Rattle.nm_rules.proofs.OpenRows.{and_parts}
 use Rattle.nm_types.specs.declared.rows.FileRow.{FileRow}
 
 -- a change of rows that keeps what they are found by
@@ -110,7 +109,7 @@ unfolding file_at
 file_at-below above last [] k rising low = refl
 file_at-below above last (row ∷ rows) k rising low = grind (arith, nat_tests, file_at-below row.number last rows k)
 
-rest_rises : (above last : ℕ) (row : FileRow) (rows : List FileRow) → files_rise above last (row ∷ rows) ≡ true → files_rise row.number last rows ≡ true
+pub rest_rises : (above last : ℕ) (row : FileRow) (rows : List FileRow) → files_rise above last (row ∷ rows) ≡ true → files_rise row.number last rows ≡ true
 rest_rises above last row rows rising = grind (arith, nat_tests)
 
 pub file_at-removed : (dir : ℕ) (name : List ℕ) (k above last : ℕ) (rows : List FileRow) → files_rise above last rows ≡ true

@@ -12,6 +12,8 @@ use Rattle.std.specs.Ordering.{is_lt, nat_cmp, ordering_index, ordering_reverse,
 use Rattle.std.specs.declared.cmp.Ordering.{Ordering}
 use Rattle.std.specs.declared.cmp.Ordering.TheVariants.{Less, Equal, Greater}
 use Rattle.std.proofs.lemmas.Map.Lookups.{exact_bytes, exact_unsigned}
+use Rattle.std.proofs.Math.Bool.{or-false}
+use Rattle.std.proofs.lemmas.Bool.{and_from}
 use Rattle.nm_types.specs.Parties.{Party, same_party, party_cmp}
 use Rattle.nm_rules.specs.Holders.{put_by, put_party, gathered, holders, has_row, opener_of, known_of, is_opener_of, is_owner_of, rises_after, parties_rise, is_among}
 use Rattle.nm_types.specs.Owners.{same_owner}
@@ -96,18 +98,11 @@ among-gathered of p (row ∷ rows) more =
     ∙ ap (λ b. same_party p (of row) || b) (among-gathered of p rows more)
     ∙ or_more (same_party p (of row)) (list_any (λ row. same_party p (of row)) rows) (is_among p more)
 
-or_nothing : (a : Bool) → (a || false) ≡ a
-or_nothing true = refl
-or_nothing false = refl
-
 pub among-holders : (p : Party) (s : Seen) → is_among p (holders s) ≡ has_row p s
 among-holders p s =
     among-gathered opener_of p s.opens (gathered known_of s.owners [])
     ∙ ap (λ b. list_any (is_opener_of p) s.opens || b)
-    (among-gathered known_of p s.owners [] ∙ or_nothing (list_any (is_owner_of p) s.owners))
-
-both : (a b : Bool) → a ≡ true → b ≡ true → (a && b) ≡ true
-both a b x y = rw (x, y) refl
+    (among-gathered known_of p s.owners [] ∙ or-false (list_any (is_owner_of p) s.owners))
 
 lt_parts : (o : Ordering) (b : Bool) → (is_lt o && b) ≡ true → (o ≡ Less) × (b ≡ true)
 lt_parts Less b h = (refl, h)
@@ -123,9 +118,9 @@ rises_after-put before party (x ∷ xs) rises above =
   where
     by_place : (o : Ordering) → party_cmp x party ≡ o → (party_cmp x party ≡ Less → rises_after x (put_party party xs) ≡ true)
         → rises_after before (put_by o party x xs (put_party party xs)) ≡ true
-    by_place Less place later = both _ _ (ap is_lt (lt_parts (party_cmp before x) (rises_after x xs) rises).0) (later place)
+    by_place Less place later = and_from _ _ (ap is_lt (lt_parts (party_cmp before x) (rises_after x xs) rises).0) (later place)
     by_place Equal place later = rises
-    by_place Greater place later = both _ _ (ap is_lt above) (both _ _ (ap is_lt (party_cmp-back x party place)) (lt_parts (party_cmp before x) (rises_after x xs) rises).1)
+    by_place Greater place later = and_from _ _ (ap is_lt above) (and_from _ _ (ap is_lt (party_cmp-back x party place)) (lt_parts (party_cmp before x) (rises_after x xs) rises).1)
 
 -- a put keeps the list rising
 pub parties_rise-put : (party : Party) (xs : List Party) → parties_rise xs ≡ true → parties_rise (put_party party xs) ≡ true
@@ -135,7 +130,7 @@ parties_rise-put party (x ∷ xs) rises = by_place (party_cmp x party) refl
     by_place : (o : Ordering) → party_cmp x party ≡ o → parties_rise (put_by o party x xs (put_party party xs)) ≡ true
     by_place Less place = rises_after-put x party xs rises place
     by_place Equal place = rises
-    by_place Greater place = both _ _ (ap is_lt (party_cmp-back x party place)) rises
+    by_place Greater place = and_from _ _ (ap is_lt (party_cmp-back x party place)) rises
 
 -- so do those that are gathered
 pub parties_rise-gathered : {A : Type 0} (of : A → Party) (rows : List A) (more : List Party) → parties_rise more ≡ true → parties_rise (gathered of rows more) ≡ true

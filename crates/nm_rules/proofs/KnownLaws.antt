@@ -2,7 +2,8 @@
 use Rattle.std.proofs.Common.{◌≡◌, ℕ, Bool, true, false, cond, List, [], ◌∷◌, ◌++◌, Option, Some, None, refl, ap, sym, subst, ◌∙◌}
 use Rattle.std.specs.Prelude.{not, is_none, find, filter, option_map, ◌==◌}
 use Rattle.std.specs.List.{list_all}
-use Rattle.std.proofs.lemmas.Bool.{false≢true, both_ways}
+use Rattle.std.proofs.lemmas.Bool.{false≢true, both_ways, and_parts}
+use Rattle.nm_rules.proofs.Apart.{all_put}
 use Rattle.nm_types.specs.Parties.{Party, same_party}
 use Rattle.nm_types.specs.Owners.{same_kind, same_owner}
 use Rattle.nm_rules.specs.LockAsks.{lock_owner}
@@ -49,7 +50,6 @@ use Rattle.nm_types.specs.declared.status.OpStatus.{OpStatus}
 use Rattle.nm_types.specs.declared.status.OpStatus.TheVariants.{Nfs4Ok}
 use Rattle.nm_rules.proofs.Legal.{words-free, words-old, words-refused, repeat_is_old}
 use Rattle.nm_rules.proofs.LockRowLaws.{list_all-filter, list_all-put}
-use Rattle.nm_rules.proofs.OpenRows.{and_parts}
 use Rattle.nm_rules.proofs.OwnerLemmas.{same_owner-Decides}
 use Rattle.nm_rules.proofs.OwnerRows.{owner_at-put, owner_at-gone, owner_at-without}
 use Rattle.nm_rules.proofs.Refusals.{by_refusal, by_start, lock_keeps, unlock_keeps, release_keeps}
@@ -101,15 +101,6 @@ all_at p k (y ∷ ys) x all found =
         some_same : {a b : OpenRow} → Some a ≡ Some b → a ≡ b
         some_same e = cc
     by_test false there passes later = later there
-
-all_put : (p : OpenRow → Bool) (row : OpenRow) (rows : List OpenRow) → list_all p rows ≡ true → p row ≡ true → list_all p (put_open row rows) ≡ true
-all_put p row [] all it = rw it refl
-all_put p row (x ∷ xs) all it =
-    by_test (x.counter == row.counter) (all_put p row xs (and_parts (p x) (list_all p xs) all).1 it)
-  where
-    by_test : (b : Bool) → list_all p (put_open row xs) ≡ true → list_all p (cond b (row ∷ xs) (x ∷ put_open row xs)) ≡ true
-    by_test true later = rw (it, (and_parts (p x) (list_all p xs) all).1) refl
-    by_test false later = rw ((and_parts (p x) (list_all p xs) all).0, later) refl
 
 all_appended : (p : OpenRow → Bool) (xs ys : List OpenRow) → list_all p xs ≡ true → list_all p ys ≡ true → list_all p (xs ++ ys) ≡ true
 all_appended p [] ys one two = two

@@ -4,7 +4,7 @@ use Rattle.std.specs.Prelude.{map, is_none, not, ◌==◌, ◌||◌, ◌&&◌, f
 use Rattle.std.specs.Option.{option_or}
 use Rattle.std.specs.Str.{bytes_eq}
 use mathlib.Core.Path.{fun_ext}
-use Rattle.std.proofs.lemmas.Bool.{not-false, true≢false}
+use Rattle.std.proofs.lemmas.Bool.{not-false, true≢false, and_parts}
 use Rattle.nm_types.specs.Parties.{Party, same_party}
 use Rattle.nm_rules.specs.Lists.{is_empty}
 use Rattle.nm_rules.specs.Attributes.{Asks, asks_of, asked_size, asked_mode, has_size}
@@ -66,7 +66,7 @@ use Rattle.nm_types.specs.declared.status.OpStatus.TheVariants.{Exist, ShareDeni
 use Rattle.nm_rules.proofs.Classes.{or_none, refuse_if-none, IsFree, all_free, first_repeats}
 use Rattle.nm_rules.proofs.FileRows.{stamped_keeps, edited_keeps, files_rise-map, files_rise-filter, files_rise-push}
 use Rattle.nm_rules.proofs.NameRows.{NamesNew, names-after}
-use Rattle.nm_rules.proofs.OpenRows.{and_parts, open_at-past, open_at-in, in-open_at, rises-filter, rises-higher, rises-put_new, rises-put_old}
+use Rattle.nm_rules.proofs.OpenRows.{open_at-past, open_at-in, in-open_at, rises-filter, rises-higher, rises-put_new, rises-put_old}
 use Rattle.nm_rules.proofs.Apart.{all_apart-filter, all_apart-put, opened_suits, renewed_suits, narrowed_suits, open_of-in, Suits}
 use Rattle.nm_rules.proofs.Looks.{look-after_words}
 use Rattle.nm_rules.proofs.Refusals.{by_refusal}
@@ -121,10 +121,6 @@ opened_sound last rows owner file access deny rising apart free (Some old) found
 
 -- ---- what nothing stops
 
-pub no_or : (a b : Bool) → (a || b) ≡ false → (a ≡ false) × (b ≡ false)
-no_or false b h = (refl, h)
-no_or true b h = absurd (true≢false h)
-
 valid_arguments : (invalid : Bool) (name : List ℕ) (asks : Asks) → arguments_fault invalid name asks ≡ None → invalid ≡ false
 unfolding arguments_fault
 valid_arguments true name asks h = cc
@@ -174,7 +170,7 @@ stop_tells full None seqid caller file d = full_tells full
 stop_tells full (Some row) seqid caller file d = judged_tells row.reply (judged (Some row) seqid caller file d)
 
 -- what is resolvable in the file system is named by its counter
-named_resolved : (s : Seen) (stateid : StateRef) (row : OpenRow) → resolved s stateid ≡ Some row → named_by (look s) stateid ≡ Some row
+pub named_resolved : (s : Seen) (stateid : StateRef) (row : OpenRow) → resolved s stateid ≡ Some row → named_by (look s) stateid ≡ Some row
 unfolding resolved named_by look
 named_resolved s Zeros row found = cc
 named_resolved s Ones row found = cc
@@ -303,7 +299,7 @@ words-old n call verdict r old = rw old refl
 
 -- ---- a refusal changes nothing
 
-either_way : {A : Type 0} (b : Bool) (x : A) → cond b x x ≡ x
+pub either_way : {A : Type 0} (b : Bool) (x : A) → cond b x x ≡ x
 either_way true x = refl
 either_way false x = refl
 
@@ -312,7 +308,7 @@ pub record SaysNothing (n : Now) (call : Call) (r : Reply) (d : Deed) (value : R
   pub changes : (b : Bool) (caller : Option Party) → cond b (deed_words n caller call.file d value) no_words ≡ no_words
   pub starts : (b : Bool) → cond b (started_by n call r d value) Stays ≡ Stays
 
-refused_says : (n : Now) (call : Call) (r : Reply) (d : Deed) → SaysNothing n call r d (refused_value d)
+pub refused_says : (n : Now) (call : Call) (r : Reply) (d : Deed) → SaysNothing n call r d (refused_value d)
 unfolding set_tree is_empty started_by
 refused_says n call r (deed.Access _) = record { changes = λ b caller. either_way b no_words; starts = λ b. either_way b Stays }
 refused_says n call r (deed.Close _) = record { changes = λ b caller. either_way b no_words; starts = λ b. either_way b Stays }
@@ -338,16 +334,16 @@ refused_says n call r (deed.SetAttr _) = record { changes = λ b caller. either_
 refused_says n call r (deed.Unlock _) = record { changes = λ b caller. either_way b no_words; starts = λ b. either_way b Stays }
 refused_says n call r (deed.Write _) = record { changes = λ b caller. either_way b no_words; starts = λ b. either_way b Stays }
 
-denial_says : (n : Now) (call : Call) (r : Reply) (args : LockArgs) (o : Option Denied) → SaysNothing n call r (deed.Lock args) (told.Lock (option_map IsDenied o))
+pub denial_says : (n : Now) (call : Call) (r : Reply) (args : LockArgs) (o : Option Denied) → SaysNothing n call r (deed.Lock args) (told.Lock (option_map IsDenied o))
 unfolding started_by
 denial_says n call r args None = record { changes = λ b caller. either_way b no_words; starts = λ b. either_way b Stays }
 denial_says n call r args (Some denied) = record { changes = λ b caller. either_way b no_words; starts = λ b. either_way b Stays }
 
-test_says : (n : Now) (call : Call) (r : Reply) (args : LockTestArgs) (o : Option Denied) → SaysNothing n call r (deed.LockTest args) (told.LockTest o)
+pub test_says : (n : Now) (call : Call) (r : Reply) (args : LockTestArgs) (o : Option Denied) → SaysNothing n call r (deed.LockTest args) (told.LockTest o)
 unfolding started_by
 test_says n call r args o = record { changes = λ b caller. either_way b no_words; starts = λ b. either_way b Stays }
 
-refusal_says : (s : Seen) (call : Call) (r : Reply) (status : OpStatus) → SaysNothing (look s) call r call.deed (refusal_value s call.caller call.file call.deed status)
+pub refusal_says : (s : Seen) (call : Call) (r : Reply) (status : OpStatus) → SaysNothing (look s) call r call.deed (refusal_value s call.caller call.file call.deed status)
 refusal_says s call r status = by_refusal (λ d value. SaysNothing (look s) call r d value)
     (refused_says (look s) call r) (denial_says (look s) call r) (test_says (look s) call r) s call.caller call.file call.deed status
 

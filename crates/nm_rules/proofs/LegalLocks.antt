@@ -1,6 +1,6 @@
 -- The tables of locks of every legal list stand, and hold what the entries say.
 use Rattle.std.proofs.Common.{◌≡◌, ◌≢◌, ◌<◌, ◌≤◌, ℕ, ◌+◌, ◌-◌, Bool, true, false, cond, List, [], ◌∷◌, Option, Some, None, refl, ap, sym, subst, ◌∙◌, arith}
-use Rattle.std.proofs.lemmas.Bool.{true≢false}
+use Rattle.std.proofs.lemmas.Bool.{true≢false, or_parts}
 use Rattle.std.proofs.lemmas.Bool.Decides.{nat_tests}
 use Rattle.std.specs.Prelude.{◌==◌, ◌||◌, not, is_none, nat_lt, option_map}
 use Rattle.nm_types.specs.Parties.{Party}
@@ -48,7 +48,7 @@ use Rattle.nm_types.specs.declared.rows.LockRow.{LockRow}
 use Rattle.nm_types.specs.declared.rows.OpenRow.{OpenRow}
 use Rattle.nm_types.specs.declared.status.OpStatus.TheVariants.{Inval, BadSeqid, LocksHeld}
 use Rattle.nm_rules.proofs.Classes.{IsFree, all_free, or_none, refusal_none, refuse_if-none}
-use Rattle.nm_rules.proofs.Legal.{no_or, words-free, words-old, words-refused, repeat_is_old, free_is_fresh, look-seen, named_lock}
+use Rattle.nm_rules.proofs.Legal.{words-free, words-old, words-refused, repeat_is_old, free_is_fresh, look-seen, named_lock, either_way}
 use Rattle.nm_rules.proofs.LockRowLaws.{locks_rise-later, lock_at-past, same_number, other_number}
 use Rattle.nm_rules.proofs.LockTables.{held-after, stand-after, owners-apart}
 use Rattle.nm_rules.proofs.OwnerLemmas.{same_owner-Decides}
@@ -173,7 +173,7 @@ unfolding lock_fault in_the_way newcomer_stop
 new_follows s party file args open_seqid stateid lock_seqid text verdict goes =
     let free : IsFree (new_checks s party file args open_seqid stateid lock_seqid text verdict) = all_free _ goes in
     let comes : newcomer_stop s (lock_owner party text) file lock_seqid ≡ None = refusal_none _ (or_none _ _ free.seqid).1 in
-    let none : is_none (lock_of (lock_owner party text) file s.locks) ≡ true = none_of _ (no_or _ _ (refuse_if-none _ BadSeqid comes)).0 in
+    let none : is_none (lock_of (lock_owner party text) file s.locks) ≡ true = none_of _ (or_parts _ _ (refuse_if-none _ BadSeqid comes)).0 in
     let within : args.offset ≤ last_of args.offset args.length = valid_range args.offset args.length (or_none _ _ free.arguments).0 in
     let next : (s.last + 1 == s.last + 1) ≡ true = same_number (s.last + 1) (s.last + 1) refl in
     record { may = (rw next none, within, none_is _ free.conflict); last = rw next (omega arith) }
@@ -262,10 +262,6 @@ stand-seen fs grants (x ∷ earlier) legal =
     rw legal.0 (stand-words s (words (look s) x.event (answer_to s x.event)) stand (follows-event s x.event stand))
 
 -- ---- what the entries say of a byte
-
-either_way : {A : Type 0} (b : Bool) (x : A) → cond b x x ≡ x
-either_way true x = refl
-either_way false x = refl
 
 or_cond : (t : Bool) (kind : LockKind) (before : Option LockKind) → or_before (cond t (Some kind) None) before ≡ cond t (Some kind) before
 or_cond true kind before = refl

@@ -3,7 +3,7 @@ use Rattle.std.proofs.Common.{◌≡◌, ◌≤◌, ◌<◌, ℕ, ◌+◌, ◌-�
 use Rattle.std.proofs.lemmas.List.{length-replicate}
 use Rattle.std.specs.Prelude.{find, option_map, map, filter, not, nat_le, nat_lt, max, unwrap_or, ◌&&◌, ◌||◌, ◌==◌}
 use Rattle.std.specs.List.{list_all}
-use Rattle.std.proofs.lemmas.Bool.{true≢false}
+use Rattle.std.proofs.lemmas.Bool.{true≢false, ltb-false, and_parts}
 use Rattle.std.proofs.lemmas.Bool.Decides.{nat_tests}
 use Rattle.nm_types.specs.Parties.{Party}
 use Rattle.nm_rules.specs.Attributes.{asks_of, asked_size, asked_mode, has_size}
@@ -40,7 +40,6 @@ use Rattle.nm_rules.proofs.Classes.{IsFree, all_free, or_none, refuse_if-none}
 use Rattle.nm_rules.proofs.FileLaws.{length-sized, length-written}
 use Rattle.nm_rules.proofs.Legal.{claimed_is_target, sound-seen, words-free, words-old, words-refused, repeat_is_old}
 use Rattle.nm_rules.proofs.LockRowLaws.{list_all-filter}
-use Rattle.nm_rules.proofs.OpenRows.{and_parts}
 use Rattle.nm_rules.proofs.Refusals.{lock_keeps, unlock_keeps, release_keeps}
 
 -- ---- changes that keep the bytes
@@ -70,7 +69,7 @@ length-map change (row ∷ rows) = omega (arith, length-map change rows)
 
 -- ---- a row that comes, and rows that go
 
-total-push : (rows : List FileRow) (row : FileRow) → total_size (rows ++ row ∷ []) ≡ total_size rows + length row.bytes
+pub total-push : (rows : List FileRow) (row : FileRow) → total_size (rows ++ row ∷ []) ≡ total_size rows + length row.bytes
 unfolding total_size
 total-push [] row = omega arith
 total-push (x ∷ xs) row = omega (arith, total-push xs row)
@@ -81,7 +80,7 @@ sizes-push (x ∷ xs) row all fits =
     let parts = and_parts (fits_size x) (list_all fits_size xs) all in
     rw (parts.0, sizes-push xs row parts.1 fits) refl
 
-total-filter : (p : FileRow → Bool) (rows : List FileRow) → total_size (filter p rows) ≤ total_size rows
+pub total-filter : (p : FileRow → Bool) (rows : List FileRow) → total_size (filter p rows) ≤ total_size rows
 unfolding total_size
 total-filter p [] = omega arith
 total-filter p (x ∷ xs) = by_test (p x) (total-filter p xs)
@@ -241,16 +240,13 @@ more_files s may = room files_limit (length s.tree.table) (last_of (changes_past
     room : (m n : ℕ) → nat_le m n ≡ false → n + 1 ≤ m
     room m n h = grind (arith, nat_tests)
 
-below : (m n : ℕ) → nat_lt m n ≡ false → n ≤ m
-below m n h = grind (arith, nat_tests)
-
 -- a size that nothing stops is within the limits
 size_fits : (s : Seen) (row : Option FileRow) (size : ℕ) → sized_limit s row (Some size) ≡ None
     → (size ≤ size_limit) × (total_size s.tree.table + (size - size_of row) ≤ total_limit)
 unfolding sized_limit
 size_fits s row size free =
     let parts = or_none _ _ free in
-    (below size_limit size (refuse_if-none _ FBig parts.0), below total_limit (total_size s.tree.table + (size - size_of row)) (refuse_if-none _ NoSpc parts.1))
+    (ltb-false size_limit size (refuse_if-none _ FBig parts.0), ltb-false total_limit (total_size s.tree.table + (size - size_of row)) (refuse_if-none _ NoSpc parts.1))
 
 -- a file with that many zeros
 abbrev zeros : Option ℕ → List ℕ
@@ -271,7 +267,7 @@ create_fits s dir args verdict limits goes =
     (more_files s (refuse_if-none _ Resource free.limit), omega arith, omega (arith, limits.total))
 
 -- an edit that sets a file's size, or keeps it
-all_at : (p : FileRow → Bool) (k : ℕ) (rows : List FileRow) (y : FileRow) → list_all p rows ≡ true → file_at k rows ≡ Some y → p y ≡ true
+pub all_at : (p : FileRow → Bool) (k : ℕ) (rows : List FileRow) (y : FileRow) → list_all p rows ≡ true → file_at k rows ≡ Some y → p y ≡ true
 unfolding file_at
 all_at p k [] y all found = cc
 all_at p k (x ∷ xs) y all found =
@@ -358,7 +354,7 @@ write_room : (s : Seen) (file : ℕ) (args : WriteArgs) → write_limit s file a
 unfolding write_limit
 write_room s file args free =
     let one = or_none _ _ free in
-    (below size_limit (args.offset + length (taken args.«data»)) (refuse_if-none _ FBig one.0), refuse_if-none _ NoSpc (or_none _ _ one.1).0)
+    (ltb-false size_limit (args.offset + length (taken args.«data»)) (refuse_if-none _ FBig one.0), refuse_if-none _ NoSpc (or_none _ _ one.1).0)
 
 -- a WRITE that nothing stops
 write_fits : (s : Seen) (caller : Option Party) (file : ℕ) (args : WriteArgs) (verdict : Verdict) → FilesFit s.tree → first (write_checks s caller file args verdict) ≡ None
@@ -382,7 +378,7 @@ write_fits s caller file args verdict limits goes =
         let size : length row.bytes ≤ size_limit = le_of (length row.bytes) (all_at fits_size file s.tree.table row limits.sizes found) in
         let filled : nat_lt total_limit (total_size s.tree.table + (max (length row.bytes) (args.offset + length (taken args.«data»)) - length row.bytes)) ≡ false =
         rw some at (subst (λ o. fills_up s (size_of o) (written_size o args) ≡ false) found room.1) in
-        (omega (arith, new, size, room.0), omega (arith, new, below total_limit (total_size s.tree.table + (max (length row.bytes) (args.offset + length (taken args.«data»)) - length row.bytes)) filled))
+        (omega (arith, new, size, room.0), omega (arith, new, ltb-false total_limit (total_size s.tree.table + (max (length row.bytes) (args.offset + length (taken args.«data»)) - length row.bytes)) filled))
 
 tree_fits : (s : Seen) (caller : Option Party) (file : ℕ) (verdict : Verdict) (d : Deed) → FilesFit s.tree → first (checks s caller file verdict d) ≡ None
     → LimitsFit (deed_words (look s) caller file d (ok_value s caller file d)).tree s.tree

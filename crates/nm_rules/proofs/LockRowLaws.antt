@@ -1,15 +1,15 @@
 -- Laws of the stateids of locks: look-ups by owner and file after each word, and rising counters.
 use Rattle.std.proofs.Common.{◌≡◌, ◌<◌, ◌≤◌, eqb-true, ℕ, ◌+◌, Bool, true, false, cond, List, [], ◌∷◌, Option, Some, None, refl, ap, sym, subst, ◌∙◌, arith}
-use Rattle.std.proofs.lemmas.Bool.{false≢true, true≢false, both_ways}
+use Rattle.std.proofs.lemmas.Bool.{false≢true, true≢false, both_ways, not-true, and_parts}
 use Rattle.std.specs.Prelude.{◌==◌, ◌&&◌, ◌||◌, not, filter, find, nat_lt}
 use Rattle.std.specs.List.{list_all, list_any}
 use Rattle.std.proofs.lemmas.Bool.Decides.{nat_tests}
+use Rattle.std.proofs.Math.Bool.{or-false}
 use Rattle.nm_types.specs.Owners.{same_owner}
 use Rattle.nm_rules.specs.LockRows.{lock_at, lock_of, is_lock_of, put_lock, locks_rise, differ, all_differ, is_on, is_lock_on}
 use Rattle.nm_types.specs.declared.calls.Owner.{Owner}
 use Rattle.nm_types.specs.declared.rows.LockRow.{LockRow}
 use Rattle.nm_rules.proofs.OwnerLemmas.{same_owner-Decides, same_owner-sym}
-use Rattle.nm_rules.proofs.OpenRows.{and_parts}
 
 -- ---- counters
 
@@ -145,10 +145,6 @@ of_both owner file row x is_row its =
     let two = lock_parts owner file x its in
     lock_is row.owner row.file x (two.0 ∙ sym one.0) (sym one.1 ∙ two.1)
 
-pub not-true : (b : Bool) → not b ≡ true → b ≡ false
-not-true true h = absurd (false≢true h)
-not-true false h = refl
-
 -- what a put leaves for an owner on a file
 pub lock_of-put : (row : LockRow) (rows : List LockRow) (owner : Owner) (file : ℕ) → list_all (fits row) rows ≡ true
     → lock_of owner file (put_lock row rows) ≡ cond (is_lock_of owner file row) (Some row) (lock_of owner file rows)
@@ -230,10 +226,6 @@ found_at p above last (y ∷ ys) x rising found =
         let rest = later there in
         (rest.0, rw (other_number y.counter x.counter rest.2) rest.1, grind (arith, nat_tests, rest.2))
 
-or_none : (b : Bool) → (b || false) ≡ b
-or_none true = refl
-or_none false = refl
-
 -- the stateid of an owner on a file
 pub found_of : (owner : Owner) (file above last : ℕ) (rows : List LockRow) (x : LockRow) → locks_rise above last rows ≡ true → lock_of owner file rows ≡ Some x
     → is_lock_of owner file x ≡ true
@@ -268,7 +260,7 @@ any_at p above last (y ∷ ys) x rising found =
         → ((b && p y) || list_any (λ row. (row.counter == x.counter) && p row) ys) ≡ p x
     by_test true same here later =
         rw (none_at p x.counter y.counter last ys (and_parts (nat_lt above y.counter) (locks_rise y.counter last ys) rising).1 (grind (arith, nat_tests, eqb-true y.counter x.counter same)))
-        (or_none (p y) ∙ ap p (some_is here))
+        (or-false (p y) ∙ ap p (some_is here))
     by_test false other there later = later there
 
 pub list_all-filter : {A : Type 0} (q p : A → Bool) (rows : List A) → list_all q rows ≡ true → list_all q (filter p rows) ≡ true

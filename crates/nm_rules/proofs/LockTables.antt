@@ -1,6 +1,6 @@
 -- Laws of the tables of locks: what each word leaves of them, and that no two owners' locks conflict.
 use Rattle.std.proofs.Common.{◌≡◌, ◌≢◌, ◌<◌, eqb-true, ℕ, ◌+◌, Bool, true, false, cond, List, [], ◌∷◌, Option, Some, None, refl, ap, sym, subst, ◌∙◌, arith}
-use Rattle.std.proofs.lemmas.Bool.{false≢true, true≢false, both_ways}
+use Rattle.std.proofs.lemmas.Bool.{false≢true, true≢false, both_ways, not-true, and_parts}
 use Rattle.std.specs.Prelude.{◌==◌, ◌&&◌, ◌||◌, not, option_map, filter, map, find, is_none, nat_le}
 use Rattle.std.specs.List.{list_all, list_any}
 use Rattle.std.proofs.lemmas.Bool.Decides.{nat_tests}
@@ -15,11 +15,10 @@ use Rattle.nm_types.specs.declared.results.LockKind.{LockKind}
 use Rattle.nm_types.specs.declared.rows.FileLocks.{FileLocks}
 use Rattle.nm_types.specs.declared.rows.Held.{Held}
 use Rattle.nm_types.specs.declared.rows.LockRow.{LockRow}
-use Rattle.nm_rules.proofs.OpenRows.{and_parts}
 use Rattle.nm_rules.proofs.RangeApart.{free_at, none_meet, set_joined, cleared_joined}
 use Rattle.nm_rules.proofs.RangeBytes.{kind_at-set, kind_at-cleared}
 use Rattle.nm_rules.proofs.RangeRows.{rise_of}
-use Rattle.nm_rules.proofs.LockRowLaws.{fits, fits-new, fits-known, lock_of-put, kept_by, lock_of-filter, found_at, any_at, lock_on-put, lock_parts, lock_is, of_same, of_both, fit_by, found_of, found_by, not-true, some_is, same_number, list_all-filter, all_differ-put, all_differ-filter, locks_rise-put_new, locks_rise-put_old, locks_rise-filter}
+use Rattle.nm_rules.proofs.LockRowLaws.{fits, fits-new, fits-known, lock_of-put, kept_by, lock_of-filter, found_at, any_at, lock_on-put, lock_parts, lock_is, of_same, of_both, fit_by, found_of, found_by, some_is, same_number, list_all-filter, all_differ-put, all_differ-filter, locks_rise-put_new, locks_rise-put_old, locks_rise-filter}
 
 -- ---- no conflict
 

@@ -3,13 +3,12 @@ use Rattle.std.proofs.Common.{◌≡◌, ◌+◌, Bool, true, false, cond, List,
 use Rattle.std.specs.Prelude.{find, option_map, map, filter, not, ◌&&◌, ◌==◌}
 use Rattle.std.specs.List.{list_all}
 use Rattle.std.specs.Str.{bytes_eq}
-use Rattle.std.proofs.lemmas.Bool.{true≢false}
+use Rattle.std.proofs.lemmas.Bool.{true≢false, and_parts}
 use Rattle.std.proofs.lemmas.Slice.Eq.{bytes_eq-Decides}
 use Rattle.nm_rules.specs.Contents.{TreeNow, TreeWord, child_at, is_named, stamped, edited_at, tree_after}
 use Rattle.nm_rules.specs.Contents.TreeWord.{Untouched, Made, Edited, Removed}
 use Rattle.nm_rules.specs.Sound.{names_apart, all_named_apart}
 use Rattle.nm_types.specs.declared.rows.FileRow.{FileRow}
-use Rattle.nm_rules.proofs.OpenRows.{and_parts}
 use Rattle.nm_rules.proofs.FileRows.{Keeps, stamped_keeps, edited_keeps, child_at-map}
 use Rattle.nm_rules.proofs.LockRowLaws.{list_all-filter, same_number}
 

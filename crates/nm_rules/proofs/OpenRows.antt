@@ -1,6 +1,6 @@
 -- Laws of the table of opens: look-ups by counter after each word, and rising counters.
 use Rattle.std.proofs.Common.{◌≡◌, ◌≢◌, ◌<◌, eqb-true, ◌≤◌, ℕ, ◌+◌, Bool, true, false, cond, List, [], ◌∷◌, Some, None, refl, ap, ◌∙◌, inl, inr, arith}
-use Rattle.std.proofs.lemmas.Bool.{false≢true}
+use Rattle.std.proofs.lemmas.Bool.{false≢true, and_parts}
 use Rattle.std.specs.Prelude.{◌==◌, ◌&&◌, ◌⊎◌, not, filter, nat_lt}
 use Rattle.std.proofs.lemmas.Bool.Decides.{nat_tests}
 use Rattle.nm_types.specs.Parties.{Party, same_party}
@@ -40,11 +40,6 @@ pub open_at-drop : (counter : ℕ) (rows : List OpenRow) (k : ℕ) → open_at k
 unfolding open_at
 open_at-drop counter [] k = grind (arith, nat_tests)
 open_at-drop counter (x ∷ xs) k = grind (arith, nat_tests, open_at-drop counter xs k)
-
--- both hold where their conjunction does
-pub and_parts : (a b : Bool) → (a && b) ≡ true → (a ≡ true) × (b ≡ true)
-and_parts true b both = (refl, both)
-and_parts false b both = absurd (false≢true both)
 
 -- The end of an instance takes its open from under each counter.
 pub open_at-drop_of : (party : Party) (above last : ℕ) (rows : List OpenRow) (k : ℕ) → rises above last rows ≡ true

@@ -1,6 +1,7 @@
 -- The table of owners keeps what the entries say of each, and a call that came before changes nothing.
 use Rattle.std.proofs.Common.{◌≡◌, Bool, true, false, cond, List, [], ◌∷◌, Option, Some, None, refl, ap, sym, ◌∙◌, ℕ}
 use Rattle.std.specs.Prelude.{◌||◌}
+use Rattle.std.proofs.Math.Bool.{or-false}
 use Rattle.nm_types.specs.Parties.{Party, same_party}
 use Rattle.nm_types.specs.Owners.{same_owner}
 use Rattle.nm_rules.specs.LockAsks.{lock_owner}
@@ -90,10 +91,6 @@ step n owner call r = by_fresh (is_fresh (judgement n call)) refl
 abbrev pub start_row : Bool → Owner → Call → Reply → ℕ → OwnerRow
 start_row confirmed owner call r seqid = record { owner = owner; seqid = seqid; confirmed = confirmed; call = call; reply = without_recalls r }
 
-or_false : (b : Bool) → (b || false) ≡ b
-or_false true = refl
-or_false false = refl
-
 started_row : (n : Now) (owner its : Owner) (seqid : ℕ) (call : Call) (r : Reply) (args : LockArgs) → call.deed ≡ deed.Lock args → (mid : Option OwnerRow)
     → owner_left (Noted (noted_row (n.owner_by its) its seqid call r) None) owner mid
     ≡ or_started (cond (same_owner owner its) (Some seqid) None) (start_row (is_confirmed (n.owner_by owner)) owner call r) mid
@@ -104,7 +101,7 @@ started_row n owner its seqid call r args it mid = by_test (same_owner owner its
     starts = start_row (is_confirmed (n.owner_by owner)) owner call r
 
     confirmed : (is_confirmed (n.owner_by its) || cond (confirms call.deed) (is_done r.status) false) ≡ is_confirmed (n.owner_by its)
-    confirmed = rw it (or_false (is_confirmed (n.owner_by its)))
+    confirmed = rw it (or-false (is_confirmed (n.owner_by its)))
 
     by_test : (b : Bool) → same_owner owner its ≡ b
         → cond b (Some (noted_row (n.owner_by its) its seqid call r)) mid ≡ or_started (cond b (Some seqid) None) starts mid

@@ -4,7 +4,9 @@ use Rattle.std.specs.Prelude.{find, option_map, map, filter, not, is_none, ◌&&
 use Rattle.std.specs.Str.{bytes_eq}
 use Rattle.std.proofs.lemmas.Slice.Eq.{bytes_eq-Decides}
 use Rattle.std.specs.List.{list_all, list_any}
-use Rattle.std.proofs.lemmas.Bool.{false≢true, true≢false, both_ways}
+use Rattle.std.proofs.lemmas.Bool.{false≢true, true≢false, both_ways, not-true, and_parts, or_parts}
+use Rattle.nm_rules.proofs.FileLaws.{found_number}
+use Rattle.nm_rules.proofs.LimitLaws.{all_at}
 use Rattle.nm_types.specs.Parties.{Party}
 use Rattle.nm_rules.specs.Attributes.{asks_of, asked_size, asked_mode}
 use Rattle.nm_rules.specs.Contents.{TreeNow, TreeWord, FileEdit, taken, file_at, child_at, is_directory, is_entry_of, is_named, stamped, edited_at, edited, tree_after}
@@ -39,9 +41,8 @@ use Rattle.nm_types.specs.declared.rows.FileRow.{FileRow}
 use Rattle.nm_types.specs.declared.status.OpStatus.TheVariants.{NotDir, NotEmpty, Stale}
 use Rattle.nm_rules.proofs.Classes.{IsFree, all_free, or_none, refuse_if-none}
 use Rattle.nm_rules.proofs.Legal.{claimed_is_target, sound-seen, words-free, words-old, words-refused, repeat_is_old}
-use Rattle.nm_rules.proofs.OpenRows.{and_parts}
 use Rattle.nm_rules.proofs.FileRows.{Keeps, stamped_keeps, edited_keeps, file_at-map, file_at-push, file_at-removed, kept_by}
-use Rattle.nm_rules.proofs.LockRowLaws.{not-true, same_number}
+use Rattle.nm_rules.proofs.LockRowLaws.{same_number}
 use Rattle.nm_rules.proofs.Refusals.{lock_keeps, unlock_keeps, release_keeps}
 
 -- ---- changes that keep what rows are found by, and of which kind they are
@@ -114,33 +115,6 @@ all_stand-push rows row (x ∷ xs) all new =
 
 -- ---- a row that goes
 
-all_at : (p : FileRow → Bool) (k : ℕ) (rows : List FileRow) (y : FileRow) → list_all p rows ≡ true → file_at k rows ≡ Some y → p y ≡ true
-unfolding file_at
-all_at p k [] y all found = cc
-all_at p k (x ∷ xs) y all found =
-    by_test (x.number == k) found (and_parts (p x) (list_all p xs) all).0 (λ there. all_at p k xs y (and_parts (p x) (list_all p xs) all).1 there)
-  where
-    some_same : {a b : FileRow} → Some a ≡ Some b → a ≡ b
-    some_same e = cc
-
-    by_test : (b : Bool) → cond b (Some x) (find (λ r. r.number == k) xs) ≡ Some y → p x ≡ true
-        → (find (λ r. r.number == k) xs ≡ Some y → p y ≡ true) → p y ≡ true
-    by_test true here passes later = ap p (sym (some_same here)) ∙ passes
-    by_test false there passes later = later there
-
-number_at : (k : ℕ) (rows : List FileRow) (y : FileRow) → file_at k rows ≡ Some y → y.number ≡ k
-unfolding file_at
-number_at k [] y found = cc
-number_at k (x ∷ xs) y found = by_test (x.number == k) refl found (λ there. number_at k xs y there)
-  where
-    some_same : {a b : FileRow} → Some a ≡ Some b → a ≡ b
-    some_same e = cc
-
-    by_test : (b : Bool) → (x.number == k) ≡ b → cond b (Some x) (find (λ r. r.number == k) xs) ≡ Some y
-        → (find (λ r. r.number == k) xs ≡ Some y → y.number ≡ k) → y.number ≡ k
-    by_test true same here later = ap (λ (r : FileRow). r.number) (sym (some_same here)) ∙ eqb-true x.number k same
-    by_test false other there later = later there
-
 -- two entries of one name in a directory aren't apart
 never_two : (dir : ℕ) (name : List ℕ) (h y : FileRow) → is_named dir name h ≡ true → is_named dir name y ≡ true → names_apart h y ≡ true → ⊥
 never_two dir name h y at_h at_y apart =
@@ -198,12 +172,8 @@ all_stand-removed : (dir : ℕ) (name : List ℕ) (last : ℕ) (rows xs : List F
 all_stand-removed dir name last rows [] rising apart empty all = refl
 all_stand-removed dir name last rows (x ∷ xs) rising apart empty all =
     by_test (is_named dir name x)
-    (all_stand-removed dir name last rows xs rising apart (λ number child. (no_or (is_entry_of number x) (list_any (is_entry_of number) xs) (empty number child)).1) (and_parts (stands_in rows x) (list_all (stands_in rows) xs) all).1)
+    (all_stand-removed dir name last rows xs rising apart (λ number child. (or_parts (is_entry_of number x) (list_any (is_entry_of number) xs) (empty number child)).1) (and_parts (stands_in rows x) (list_all (stands_in rows) xs) all).1)
   where
-    no_or : (a b : Bool) → (a || b) ≡ false → (a ≡ false) × (b ≡ false)
-    no_or false b h = (refl, h)
-    no_or true b h = absurd (true≢false h)
-
     left : List FileRow
     left = filter (λ r. not (is_named dir name r)) rows
 
@@ -214,8 +184,8 @@ all_stand-removed dir name last rows (x ∷ xs) rising apart empty all =
         by_named false other = refl
         by_named true named =
             absurd (both_ways (is_entry_of y.number x)
-            (no_or (is_entry_of y.number x) (list_any (is_entry_of y.number) xs) (empty y.number (named_is_child dir name x.parent rows y apart found named))).0
-            (rw (same_number x.parent y.number (sym (number_at x.parent rows y found)), entry) refl))
+            (or_parts (is_entry_of y.number x) (list_any (is_entry_of y.number) xs) (empty y.number (named_is_child dir name x.parent rows y apart found named))).0
+            (rw (same_number x.parent y.number (sym (found_number x.parent rows y found)), entry) refl))
 
     by_test : (b : Bool) → list_all (stands_in left) (filter (λ r. not (is_named dir name r)) xs) ≡ true
         → list_all (stands_in left) (cond (not b) (x ∷ filter (λ r. not (is_named dir name r)) xs) (filter (λ r. not (is_named dir name r)) xs)) ≡ true

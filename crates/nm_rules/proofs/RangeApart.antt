@@ -1,6 +1,6 @@
 -- No two owners hold conflicting locks at a byte, and what a lock meets first.
 use Rattle.std.proofs.Common.{◌≡◌, ◌≢◌, ◌≤◌, ◌<◌, ℕ, ◌+◌, Bool, true, false, cond, List, [], ◌∷◌, Option, Some, None, refl, ap, sym, subst, ◌∙◌, inl, inr, arith, eqb-true}
-use Rattle.std.proofs.lemmas.Bool.{false≢true, and_parts, and_from, leb-true, leb-false, ltb-true, ltb-false, le-leb, eq-eqb, ne_eqb, false_from_ne_true, both_ways}
+use Rattle.std.proofs.lemmas.Bool.{false≢true, and_parts, and_from, leb-true, leb-false, ltb-true, ltb-false, le-leb, eq-eqb, ne_eqb, false_from_ne_true, both_ways, not-true}
 use Rattle.std.specs.Prelude.{◌==◌, ◌&&◌, ◌⊎◌, not, nat_lt, nat_le}
 use Rattle.std.specs.List.{list_any}
 use Rattle.nm_rules.specs.Locks.{IsBarrier, IsFree, IsJoined, IsRow, barrier, cleared, conflicts, conflicts_with, dropped, is_before, is_in_way, is_inside, is_range, kind_at, kinds_conflict, met, nearest, none_conflict, overlaps, same_lock, set_to, touches}
@@ -139,10 +139,6 @@ conflict_parts n v w all =
     let inner = and_parts n v outer.0 in
     (inner.0, inner.1, outer.1)
 
-not_is : (t : Bool) → not t ≡ true → t ≡ false
-not_is true it = sym it
-not_is false it = refl
-
 -- where a row and a range share a byte, the least such byte is in both
 pub met_in : (first last : ℕ) (h : Held) → first ≤ last → is_range h ≡ true → overlaps first last h ≡ true
     → (first ≤ met first h) × (met first h ≤ last) × (h.first ≤ met first h) × (met first h ≤ h.last)
@@ -180,7 +176,7 @@ apart_of rows rising meet = none_from rows (λ a b at_a at_b. false_from_ne_true
         let parts = conflict_parts (not (b.owner == a.owner)) (overlaps a.first a.last b) (kinds_conflict a.kind b.kind) all in
         let spot = met_in a.first a.last b (leb-true a.first a.last (ranges_in rows a rising at_a)) (ranges_in rows b rising at_b) parts.1 in
         both_ways (kinds_conflict a.kind b.kind)
-        (meet a.owner b.owner (met a.first b) a.kind b.kind (λ e. both_ways (b.owner == a.owner) (not_is (b.owner == a.owner) parts.0) (eq-eqb b.owner a.owner (sym e)))
+        (meet a.owner b.owner (met a.first b) a.kind b.kind (λ e. both_ways (b.owner == a.owner) (not-true (b.owner == a.owner) parts.0) (eq-eqb b.owner a.owner (sym e)))
         (kind_of_row rows a (met a.first b) rising at_a (cover_from (met a.first b) a spot.0 spot.1))
         (kind_of_row rows b (met a.first b) rising at_b (cover_from (met a.first b) b spot.2 spot.3)))
         parts.2
@@ -359,7 +355,7 @@ no_neighbour rows a b rising at_a at_b same likes step = by_order (in_order rows
     by_order (inl e) =
         let ends : a.last ≡ b.last = ap (λ (h : Held). h.last) e in
         absurd (omega (arith, ends, step, up.1))
-    by_order (inr (inl it)) = both_ways (touches a b) (not_is (touches a b) (and_parts (is_before a b) (not (touches a b)) it).1) touching
+    by_order (inr (inl it)) = both_ways (touches a b) (not-true (touches a b) (and_parts (is_before a b) (not (touches a b)) it).1) touching
     by_order (inr (inr it)) = backwards (before_tells b a (follows_before b a it))
 
 -- the row that has the byte behind another one of its owner begins there
@@ -427,7 +423,7 @@ pub is_barrier : (owner : ℕ) (kind : LockKind) (first last : ℕ) (rows : List
 is_barrier owner kind first last rows h rising order it =
     record {
       listed = it.listed;
-      others = λ e. both_ways (h.owner == owner) (not_is (h.owner == owner) parts.0) (eq-eqb h.owner owner e);
+      others = λ e. both_ways (h.owner == owner) (not-true (h.owner == owner) parts.0) (eq-eqb h.owner owner e);
       in_conflict = parts.2;
       met_within = (spot.0, spot.1);
       met_held = (spot.2, spot.3);

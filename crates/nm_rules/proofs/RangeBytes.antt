@@ -3,6 +3,7 @@ use Rattle.std.proofs.Common.{◌≡◌, ◌≢◌, ◌≤◌, ◌<◌, ℕ, ◌
 use Rattle.std.proofs.lemmas.Bool.{and_parts, leb-true, le-leb}
 use Rattle.std.proofs.lemmas.Bool.Decides.{nat_tests}
 use Rattle.std.specs.Prelude.{◌==◌, ◌&&◌, ◌⊎◌, not, nat_lt, nat_le, filter, find, option_map}
+use Rattle.nm_rules.proofs.Apart.{same_test}
 use Rattle.nm_rules.specs.Locks.{IsRow, cleared, cut, dropped, holds_byte, is_before, is_inside, is_range, joined, joined_after, kind_at, overlaps, put_range, set_to, touches}
 use Rattle.nm_types.specs.declared.results.LockKind.{LockKind}
 use Rattle.nm_types.specs.declared.rows.Held.{Held}
@@ -228,9 +229,6 @@ pub set_rises : (owner : ℕ) (kind : LockKind) (first last : ℕ) (rows : List 
 unfolding set_to
 set_rises owner kind first last rows order rising =
     joined_rises (put_range (asked owner kind first last) (cleared owner first last rows)) (put_cleared owner kind first last rows order rising)
-
-same_test : (m n : ℕ) → (m == n) ≡ (n == m)
-same_test m n = grind (arith, nat_tests)
 
 held-set : (owner : ℕ) (kind : LockKind) (first last : ℕ) (rows : List Held) (other p : ℕ) → first ≤ last → ranges_rise rows ≡ true
     → held_kind other p (set_to owner kind first last rows) ≡ cond ((other == owner) && is_inside first last p) (Some kind) (held_kind other p rows)

@@ -2,7 +2,7 @@
 use Rattle.std.proofs.Common.{◌≡◌, ◌≤◌, ℕ, ◌+◌, Bool, true, false, cond, List, [], ◌∷◌, ◌++◌, Option, Some, None, refl, ap, sym, subst, ◌∙◌, arith, eqb-true}
 use Rattle.std.specs.Prelude.{length, not, is_none, nat_le, nat_lt, find, filter, map, option_map, ◌==◌}
 use Rattle.std.specs.Option.{option_or}
-use Rattle.std.proofs.lemmas.Bool.{false≢true, true≢false}
+use Rattle.std.proofs.lemmas.Bool.{false≢true, true≢false, ltb-false}
 use Rattle.std.proofs.lemmas.Bool.Decides.{nat_tests}
 use Rattle.nm_types.specs.Parties.{Party, same_party}
 use Rattle.nm_types.specs.Owners.{same_owner}
@@ -69,7 +69,7 @@ use Rattle.nm_rules.proofs.OpenRows.{open_at-in}
 
 -- ---- lengths
 
-length-filter : {A : Type 0} (p : A → Bool) (rows : List A) → length (filter p rows) ≤ length rows
+pub length-filter : {A : Type 0} (p : A → Bool) (rows : List A) → length (filter p rows) ≤ length rows
 length-filter p [] = omega arith
 length-filter p (x ∷ xs) = by_head (p x) (length-filter p xs)
   where
@@ -431,10 +431,10 @@ unfolding open_checks open_limit
 open_room s party file args verdict goes =
     let free : IsFree (open_checks s (Some party) file args verdict) = all_free _ goes in
     let limits = or_none (tree_limit s (target s file args) args.opentype) _ free.limit in
-    fits rows_limit (rows_with_open s (opener party args) (file_to_open s file args)) (refuse_if-none _ Resource (or_none _ _ limits.1).1)
+    ltb-false rows_limit (rows_with_open s (opener party args) (file_to_open s file args)) (refuse_if-none _ Resource (or_none _ _ limits.1).1)
   where
-    fits : (m n : ℕ) → nat_lt m n ≡ false → n ≤ m
-    fits m n h = grind (arith, nat_tests)
+    ltb-false : (m n : ℕ) → nat_lt m n ≡ false → n ≤ m
+    ltb-false m n h = grind (arith, nat_tests)
 
 -- ---- locks
 
@@ -505,9 +505,6 @@ starts_fewer word (Gone owner) s none =
     omega (arith, length-filter (λ (x : OwnerRow). not (same_owner owner x.owner)) (owners_after word s.owners), length-filter (λ (x : OpenRow). not (same_owner owner x.owner)) (closed_after word s.closed))
 starts_fewer word (GoneOf party) s none = absurd none
 
-fits : (m n : ℕ) → nat_lt m n ≡ false → n ≤ m
-fits m n h = grind (arith, nat_tests)
-
 -- a range is taken or given up by a stateid that is there
 pub named_lock_at : (s : Seen) (stateid : StateRef) (row : LockRow) → lock_named s stateid ≡ Some row → (lock_at row.counter s.locks ≡ Some row) × (counter_of stateid ≡ row.counter)
 unfolding lock_named counter_of
@@ -529,7 +526,7 @@ unlock_room : (s : Seen) (caller : Option Party) (file : ℕ) (args : UnlockArgs
 unfolding unlock_checks
 unlock_room s caller file args verdict goes =
     let free : IsFree (unlock_checks s caller file args verdict) = all_free _ goes in
-    fits rows_limit _ (refuse_if-none _ Resource free.limit)
+    ltb-false rows_limit _ (refuse_if-none _ Resource free.limit)
 
 -- the file of a stateid that goes
 stop_file : (its file : ℕ) (o : Option OpStatus) (status : OpStatus) → cond (its == file) o (Some status) ≡ None → its ≡ file
@@ -587,7 +584,7 @@ known_rows_of s caller file args stateid lock_seqid verdict call r goes none kno
     rw at.0 (omega (
       arith,
       lock_owner_rows s call r stateid none known,
-      fits rows_limit (rows_with_known s file (ranges_with s (counter_of stateid) file args.kind args.offset args.length)) (refuse_if-none _ Resource free.limit),
+      ltb-false rows_limit (rows_with_known s file (ranges_with s (counter_of stateid) file args.kind args.offset args.length)) (refuse_if-none _ Resource free.limit),
       known_locks s row at.0,
       ap (λ k. ranges_taken (put_ranges file (set_to k (kind_of args.kind) args.offset (last_of args.offset args.length) (ranges_on file s.ranges)) s.ranges)) at.1,
       ap (λ f. ranges_taken (put_ranges f (set_to row.counter (kind_of args.kind) args.offset (last_of args.offset args.length) (ranges_on f s.ranges)) s.ranges))
@@ -633,7 +630,7 @@ new_rows s party file args open_seqid stateid lock_seqid text verdict call start
     ap (λ o. noted (look s) call r (option_map (λ (x : OpenRow). x.owner) o)) its ∙ noted_done (look s) call r row.owner done
     ∙ ap (λ c. Noted (noted_row ((look s).owner_by row.owner) row.owner (seqid_of call.deed) call r) c) none in
     let room : rows_with_new s (open_named s stateid) (lock_owner party text) file args ≤ rows_limit =
-    fits rows_limit _ (refuse_if-none _ Resource (or_none _ _ free.limit).1) in
+    ltb-false rows_limit _ (refuse_if-none _ Resource (or_none _ _ free.limit).1) in
     let counted : rows_with_new s (Some row) (lock_owner party text) file args ≤ rows_limit =
     subst (λ o. rows_with_new s o (lock_owner party text) file args ≤ rows_limit) named room in
     rw noting (omega (

@@ -1,7 +1,7 @@
 -- An owner comes back to a seqid only after all others: each is the next one of the one before it.
 use Rattle.std.proofs.Common.{◌≡◌, ◌<◌, ◌≤◌, ◌+◌, ℕ, zero, suc, Bool, true, false, cond, List, [], ◌∷◌, Option, Some, None, refl, ap, sym, ◌∙◌, inl, inr, arith, eqb-true}
 use Rattle.std.specs.Prelude.{◌==◌, ◌&&◌, ◌⊎◌, option_map, slice_get}
-use Rattle.std.proofs.lemmas.Bool.{not-false}
+use Rattle.std.proofs.lemmas.Bool.{not-false, or_parts}
 use Rattle.nm_types.specs.Parties.{Party, same_party}
 use Rattle.nm_rules.specs.LockAsks.{lock_owner}
 use Rattle.nm_rules.specs.LockOps.{lock_checks, lock_value, newcomer_stop, is_out_of_turn}
@@ -37,7 +37,7 @@ use Rattle.nm_types.specs.declared.owners.Judgement.TheVariants as judged_as
 use Rattle.nm_types.specs.declared.owners.OwnerRow.{OwnerRow}
 use Rattle.nm_rules.proofs.OwnerLemmas.{same_owner-Decides}
 use Rattle.nm_rules.proofs.Classes.{IsFree, all_free, or_none, refusal_none, refuse_if-none}
-use Rattle.nm_rules.proofs.Legal.{no_or, repeat_is_old, look-seen}
+use Rattle.nm_rules.proofs.Legal.{repeat_is_old, look-seen}
 use Rattle.nm_rules.proofs.OwnerLaws.{read_row, start_row, owner-now, owner-seen}
 use Rattle.nm_rules.proofs.Refusals.{by_refusal}
 
@@ -173,7 +173,7 @@ newcomer_turn s owner (Some party) file args verdict (Known stateid lock_seqid) 
 newcomer_turn s owner (Some party) file args verdict (New open_seqid stateid lock_seqid text) seqid goes starts =
     let free : IsFree (lock_checks s (Some party) file args (New open_seqid stateid lock_seqid text) verdict) = all_free _ goes in
     let comes : newcomer_stop s (lock_owner party text) file lock_seqid ≡ None = refusal_none _ (or_none _ _ free.seqid).1 in
-    by_test (same_owner owner (lock_owner party text)) refl starts (no_or _ _ (refuse_if-none _ BadSeqid comes)).1
+    by_test (same_owner owner (lock_owner party text)) refl starts (or_parts _ _ (refuse_if-none _ BadSeqid comes)).1
   where
     by_test : (b : Bool) → same_owner owner (lock_owner party text) ≡ b → cond b (Some lock_seqid) None ≡ Some seqid
         → is_out_of_turn (owner_at (lock_owner party text) s.owners) lock_seqid ≡ false → is_out_of_turn (owner_at owner s.owners) seqid ≡ false

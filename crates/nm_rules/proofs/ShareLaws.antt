@@ -1,7 +1,7 @@
 -- In every legal list the table of opens keeps each owner's share, and no two owners' shares of a file conflict.
 use Rattle.std.proofs.Common.{◌≡◌, ◌≢◌, ℕ, ◌+◌, Bool, true, false, cond, List, [], ◌∷◌, Option, Some, None, refl, ap, sym, subst, ◌∙◌, inl, inr, arith, eqb-true}
 use Rattle.std.specs.Prelude.{not, ◌==◌, ◌&&◌, filter, find, option_map}
-use Rattle.std.proofs.lemmas.Bool.{false≢true, both_ways, eqb-false}
+use Rattle.std.proofs.lemmas.Bool.{false≢true, both_ways, eqb-false, and_parts}
 use Rattle.std.proofs.lemmas.Bool.Decides.{nat_tests}
 use Rattle.nm_types.specs.Parties.{Party, same_party}
 use Rattle.nm_types.specs.Owners.{same_owner}
@@ -38,7 +38,7 @@ use Rattle.nm_types.specs.declared.calls.ReplyValue.TheVariants as told
 use Rattle.nm_types.specs.declared.status.OpStatus.{OpStatus}
 use Rattle.nm_types.specs.declared.rows.OpenRow.{OpenRow}
 use Rattle.nm_rules.proofs.OwnerLemmas.{same_owner-Decides}
-use Rattle.nm_rules.proofs.OpenRows.{IsIn, and_parts, open_at-past, open_at-in, in-open_at, in-filter}
+use Rattle.nm_rules.proofs.OpenRows.{IsIn, open_at-past, open_at-in, in-open_at, in-filter}
 use Rattle.nm_rules.proofs.Apart.{Suits, apart_in, opened_suits, renewed_suits, narrowed_suits, open_of-in, open_of-none}
 use Rattle.nm_rules.proofs.Legal.{same_row, open_goes, downgrade_goes, free_is_fresh, repeat_is_old, words-refused, words-old, words-free, named_is_live, sound-seen, look-seen}
 use Rattle.nm_rules.proofs.Refusals.{by_refusal, lock_keeps, unlock_keeps, release_keeps}

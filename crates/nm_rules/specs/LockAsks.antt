@@ -1,5 +1,5 @@
 -- What the arguments of operations on byte-range locks ask for (RFC 7530, 16.10, 16.11 and 16.12).
-use Rattle.std.specs.Prelude.{◌==◌, ◌||◌, nat_lt, ℕ, ◌+◌, ◌-◌, Bool, List, Option, if◌then◌else◌}
+use Rattle.std.specs.Prelude.{◌==◌, ◌||◌, ◌&&◌, nat_lt, ℕ, ◌+◌, ◌-◌, Bool, List, Option, if◌then◌else◌}
 use Rattle.nm_types.specs.Calls.{greatest}
 use Rattle.nm_types.specs.Parties.{Party}
 use Rattle.nm_rules.specs.Checks.{refuse_if}
@@ -29,6 +29,11 @@ access_for Write = 2
 -- the last byte of a range
 unfoldable pub last_of : ℕ → ℕ → ℕ
 last_of offset length = if length == greatest then greatest else offset + length - 1
+
+-- The last byte of a range as a refusal tells it. Told is a length, whose greatest is the mark of a range that reaches to the
+-- end (RFC 7530, 16.10.4): the one range of that many bytes that ends before the last of all is told so too.
+unfoldable pub last_told : ℕ → ℕ → ℕ
+last_told first last = if (first == 0) && (last + 1 == greatest) then greatest else last
 
 -- It has no byte, or begins or ends behind the last of all.
 unfoldable pub is_no_range : ℕ → ℕ → Bool

@@ -4,7 +4,7 @@ use Rattle.std.specs.Option.{option_and_then, option_or}
 use Rattle.nm_types.specs.Parties.{Party}
 use Rattle.nm_types.specs.Owners.{same_owner}
 use Rattle.nm_rules.specs.Locks.{barrier, cleared, set_to}
-use Rattle.nm_rules.specs.LockAsks.{kind_of, access_for, last_of, range_stop, lock_owner, counter_of}
+use Rattle.nm_rules.specs.LockAsks.{kind_of, access_for, last_of, last_told, range_stop, lock_owner, counter_of}
 use Rattle.nm_rules.specs.LockRows.{lock_at, lock_of, ranges_on, put_ranges, ranges_taken, are_idle_of}
 use Rattle.nm_rules.specs.Seqids.{owner_at}
 use Rattle.nm_rules.specs.Shares.{next_seqid}
@@ -47,7 +47,7 @@ denied_stop found = refuse_if (not (is_none found)) status.Denied
 -- a range with the owner that holds it
 abbrev pub denied_by : Held → LockRow → Denied
 denied_by h row = record {
-  range = record { kind = h.kind; first = h.first; last = h.last };
+  range = record { kind = h.kind; first = h.first; last = last_told h.first h.last };
   owner = row.owner.text;
   instance = Some row.owner.instance;
 }

@@ -3,7 +3,7 @@ use Rattle.std.proofs.Common.{◌≡◌, ℕ, ◌+◌, ◌<◌, ◌≤◌, ◌^�
 use Rattle.std.specs.Prelude.{codes}
 use Rattle.std.specs.List.{list_any, AllByRecursion}
 use Rattle.std.specs.Str.{bytes_eq}
-use Rattle.std.proofs.lemmas.Bool.{le-leb, lt-leb, ne_eqb}
+use Rattle.std.proofs.lemmas.Bool.{le-leb, lt-leb, ne_eqb, and_parts}
 use Rattle.std.proofs.lemmas.List.{append-nil, length-append, length-map}
 use Rattle.std.proofs.lemmas.List.Elements.{recursion_from_All}
 use Rattle.nm_script.specs.declared.script.Head.{Head}
@@ -21,7 +21,7 @@ use Rattle.nm_script.specs.declared.order.Kind.TheVariants as kind
 use Rattle.nm_script.specs.Words.{has_empty_word}
 use Rattle.nm_script.specs.Grammar.{name_at, server_names, file_system_names, client_names, all_names, all_differ, version_words, lease_words, server_words, file_system_words, client_words, run_words, script_words, IsName, IsHead, IsRun, IsWellFormed}
 use Rattle.nm_script.specs.Reading.{◌>>=◌, kind_of, first_kind, may_follow, server_number, nothing_yet, version_at, lease_at, with_server, server_at, with_file_system, file_system_at, with_client, client_at, run_at, kind_at, words_at, is_full, is_past_last, finished}
-use Rattle.nm_script.proofs.WordLaws.{and_true, IsWord, number_again, decimal_is_word, name_is_word}
+use Rattle.nm_script.proofs.WordLaws.{IsWord, number_again, decimal_is_word, name_is_word}
 use Rattle.nm_script.proofs.RunLaws.{bind_ok, ok_is, place_again, HasNames, run_again, run_are_words, keyword, word_in}
 use Rattle.nm_script.proofs.DraftLaws.{push_there, differ_front, differ_new, new_again, is_among, versioned, leased, served, placed, joined, ran, served_names, placed_names}
 
@@ -209,7 +209,7 @@ names_are_words (name ∷ names) are = (name_is_word name are.0, names_are_words
 
 differ_back : (names more : List (List ℕ)) → all_differ (names ++ more) ≡ true → all_differ more ≡ true
 differ_back [] more differ = differ
-differ_back (n ∷ ns) more differ = differ_back ns more (and_true (not (list_any (bytes_eq n) (ns ++ more))) (all_differ (ns ++ more)) differ).1
+differ_back (n ∷ ns) more differ = differ_back ns more (and_parts (not (list_any (bytes_eq n) (ns ++ more))) (all_differ (ns ++ more)) differ).1
 
 pub has_names : (head : Head) → IsHead head → HasNames head
 has_names head is =

@@ -3,7 +3,7 @@ use Rattle.std.proofs.Common.{◌≡◌, ℕ, suc, ◌<◌, ◌≤◌, ◌^◌, 
 use Rattle.std.specs.Prelude.{◌||◌, ◌&&◌, codes}
 use Rattle.std.specs.List.{list_any}
 use Rattle.std.specs.Str.{bytes_eq}
-use Rattle.std.proofs.lemmas.Bool.{cases_lt, leb-true, leb-false}
+use Rattle.std.proofs.lemmas.Bool.{cases_lt, leb-true, leb-false, or_parts, not-true, and_from, and_parts, or_from}
 use Rattle.std.proofs.lemmas.List.{append-nil, length-append, map-append}
 use Rattle.std.proofs.lemmas.List.Folds.{list_any-append}
 use Rattle.std.proofs.lemmas.List.Elements.{All-push, All-nil}
@@ -19,7 +19,7 @@ use Rattle.nm_script.specs.declared.order.Kind.TheVariants as kind
 use Rattle.nm_script.specs.Words.{has_empty_word, number_at, is_name}
 use Rattle.nm_script.specs.Grammar.{server_names, file_system_names, client_names, all_names, all_differ, version_words, lease_words, server_words, file_system_words, client_words, run_words, IsName, IsRun}
 use Rattle.nm_script.specs.Reading.{kind_of, first_kind, may_follow, is_new_name, is_server, is_file_system, is_client, server_number, version_at, lease_at, with_server, server_at, with_file_system, file_system_at, with_client, client_at, run_line, run_at, kind_at, words_at, is_full, is_past_last}
-use Rattle.nm_script.proofs.WordLaws.{or_false, and_true, not_true, chosen, same_word, name_found, name_again, number_found}
+use Rattle.nm_script.proofs.WordLaws.{chosen, same_word, name_found, name_again, number_found}
 use Rattle.nm_script.proofs.RunLaws.{bind_ok, ok_is, guard_ok, place_found, run_found}
 
 -- ---- the order of lines
@@ -138,36 +138,28 @@ list_any-map p f (x ∷ xs) = ap (λ b. p (f x) || b) (list_any-map p f xs)
 abbrev pub is_among : List ℕ → List (List ℕ) → Bool
 is_among name names = list_any (λ n. bytes_eq n name) names
 
-pub both_false : (a b : Bool) → a ≡ false → b ≡ false → (a || b) ≡ false
-both_false true b p q = absurd cc
-both_false false b p q = q
-
-pub both_true : (a b : Bool) → a ≡ true → b ≡ true → (a && b) ≡ true
-both_true true b p q = q
-both_true false b p q = absurd cc
-
 pub differ_push : (names : List (List ℕ)) (name : List ℕ) → all_differ names ≡ true → is_among name names ≡ false → all_differ (names ++ name ∷ []) ≡ true
 differ_push [] name differ new = refl
 differ_push (n ∷ ns) name differ new =
-    let p = and_true (not (list_any (bytes_eq n) ns)) (all_differ ns) differ in
-    let q = or_false (bytes_eq n name) (is_among name ns) new in
+    let p = and_parts (not (list_any (bytes_eq n) ns)) (all_differ ns) differ in
+    let q = or_parts (bytes_eq n name) (is_among name ns) new in
     let none : list_any (bytes_eq n) (ns ++ name ∷ []) ≡ false =
-    list_any-append (bytes_eq n) ns (name ∷ []) ∙ both_false (list_any (bytes_eq n) ns) (bytes_eq n name || false) (not_true (list_any (bytes_eq n) ns) p.0) (both_false (bytes_eq n name) false q.0 refl) in
-    both_true (not (list_any (bytes_eq n) (ns ++ name ∷ []))) (all_differ (ns ++ name ∷ [])) (ap not none) (differ_push ns name p.1 q.1)
+    list_any-append (bytes_eq n) ns (name ∷ []) ∙ or_from (list_any (bytes_eq n) ns) (bytes_eq n name || false) (not-true (list_any (bytes_eq n) ns) p.0) (or_from (bytes_eq n name) false q.0 refl) in
+    and_from (not (list_any (bytes_eq n) (ns ++ name ∷ []))) (all_differ (ns ++ name ∷ [])) (ap not none) (differ_push ns name p.1 q.1)
 
 pub differ_front : (names more : List (List ℕ)) → all_differ (names ++ more) ≡ true → all_differ names ≡ true
 differ_front [] more differ = refl
 differ_front (n ∷ ns) more differ =
-    let p = and_true (not (list_any (bytes_eq n) (ns ++ more))) (all_differ (ns ++ more)) differ in
-    let q = or_false (list_any (bytes_eq n) ns) (list_any (bytes_eq n) more) (sym (list_any-append (bytes_eq n) ns more) ∙ not_true _ p.0) in
+    let p = and_parts (not (list_any (bytes_eq n) (ns ++ more))) (all_differ (ns ++ more)) differ in
+    let q = or_parts (list_any (bytes_eq n) ns) (list_any (bytes_eq n) more) (sym (list_any-append (bytes_eq n) ns more) ∙ not-true _ p.0) in
     rw (q.0, differ_front ns more p.1) refl
 
 pub differ_new : (names : List (List ℕ)) (name : List ℕ) (more : List (List ℕ)) → all_differ (names ++ name ∷ more) ≡ true → is_among name names ≡ false
 differ_new [] name more differ = refl
 differ_new (n ∷ ns) name more differ =
-    let p = and_true (not (list_any (bytes_eq n) (ns ++ name ∷ more))) (all_differ (ns ++ name ∷ more)) differ in
-    let q = or_false (list_any (bytes_eq n) ns) (list_any (bytes_eq n) (name ∷ more)) (sym (list_any-append (bytes_eq n) ns (name ∷ more)) ∙ not_true _ p.0) in
-    let r = or_false (bytes_eq n name) (list_any (bytes_eq n) more) q.1 in
+    let p = and_parts (not (list_any (bytes_eq n) (ns ++ name ∷ more))) (all_differ (ns ++ name ∷ more)) differ in
+    let q = or_parts (list_any (bytes_eq n) ns) (list_any (bytes_eq n) (name ∷ more)) (sym (list_any-append (bytes_eq n) ns (name ∷ more)) ∙ not-true _ p.0) in
+    let r = or_parts (bytes_eq n name) (list_any (bytes_eq n) more) q.1 in
     rw (r.0, differ_new ns name more p.1) refl
 
 among_all : (head : Head) (name : List ℕ) → (is_server head name || is_file_system head name || is_client head name) ≡ is_among name (all_names head)
@@ -185,8 +177,8 @@ among_all head name =
 pub new_found : (head : Head) (name : List ℕ) → is_new_name head name ≡ true → IsName name × (is_among name (all_names head) ≡ false)
 unfolding is_new_name
 new_found head name e =
-    let p = and_true (is_name name) (not (is_server head name || is_file_system head name || is_client head name)) e in
-    (name_found name p.0, sym (among_all head name) ∙ not_true _ p.1)
+    let p = and_parts (is_name name) (not (is_server head name || is_file_system head name || is_client head name)) e in
+    (name_found name p.0, sym (among_all head name) ∙ not-true _ p.1)
 
 pub new_again : (head : Head) (name : List ℕ) → IsName name → is_among name (all_names head) ≡ false → is_new_name head name ≡ true
 unfolding is_new_name
@@ -485,7 +477,7 @@ lease_found d e (w ∷ []) is next h first = absurd cc
 lease_found d e (w ∷ word ∷ []) is next h first =
     let x = bind_ok (number_at word) (λ seconds. cond (leb 1 seconds && leb seconds 3600) (Ok (leased d seconds)) (Err why.Number)) e h in
     let g = guard_ok (leb 1 x.0 && leb x.0 3600) why.Number (leased d x.0) e x.2 in
-    let limits = and_true (leb 1 x.0) (leb x.0 3600) g.0 in
+    let limits = and_parts (leb 1 x.0) (leb x.0 3600) g.0 in
     let number = number_found word x.0 x.1 in
     let words_are : w ∷ word ∷ [] ≡ lease_words x.0 = ap (λ (y : List ℕ). y ∷ word ∷ []) first ∙ ap (λ (y : List ℕ). codes "lease" ∷ y ∷ []) number.0 in
     subst (Adds d (w ∷ word ∷ [])) g.1 (subst (λ ws. Adds d ws (leased d x.0)) (sym words_are)

@@ -2,14 +2,14 @@
 use Rattle.std.proofs.Common.{◌≡◌, ℕ, zero, suc, ◌+◌, ◌*◌, ◌/◌, ◌%◌, ◌<◌, ◌≤◌, Bool, true, false, cond, leb, eqb, ltb, List, [], ◌∷◌, length, slice_index, Option, Some, None, unwrap_or, Result, Ok, Err, refl, sym, ap, subst, ◌∙◌, arith, inl, inr}
 use Rattle.std.specs.Prelude.{◌&&◌}
 use Rattle.std.specs.List.{All}
-use Rattle.std.proofs.lemmas.Bool.{cases_lt, ltb-true, leb-true, le-leb, eqb-true}
+use Rattle.std.proofs.lemmas.Bool.{cases_lt, ltb-true, leb-true, le-leb, eqb-true, and_parts}
 use Rattle.std.proofs.lemmas.List.Elements.{All-nil, All-cons, All-head, All-tail}
 use Rattle.hex.specs.Hex.{IsBytes, decode_of, decode_pairs, digit_or_error, encode_lower, encode_with, hex_digit_value, lower_digits, pair_value, value_at, ◌>>=◌}
 use Rattle.hex.specs.declared.error.FromHexError.{FromHexError}
 use Rattle.hex.proofs.HexLemmas.{length-encode_with, decode_of-encode_lower, decode_of-even, decode_of-ok}
 use Rattle.nm_script.specs.declared.script.Why.TheVariants.{Number}
 use Rattle.nm_script.specs.Words.{is_small_digit, are_small_digits, is_hex, bytes_or_fault, bytes_at}
-use Rattle.nm_script.proofs.WordLaws.{and_true, chosen, IsWord, has_none}
+use Rattle.nm_script.proofs.WordLaws.{chosen, IsWord, has_none}
 
 -- ---- a test of each number below another
 
@@ -20,7 +20,7 @@ all_below p (suc n) = p n && all_below p n
 all_below_at : (p : ℕ → Bool) (n k : ℕ) → all_below p n ≡ true → k < n → p k ≡ true
 all_below_at p zero k all lt = absurd (omega arith)
 all_below_at p (suc n) k all lt =
-    let both = and_true (p n) (all_below p n) all in
+    let both = and_parts (p n) (all_below p n) all in
     elim (cases_lt k n) [
       | inl below ↦ all_below_at p n k both.1 below
       | inr top ↦
@@ -51,7 +51,7 @@ value_is_digit : (b v : ℕ) → is_small_digit b ≡ true → hex_digit_value b
 value_is_digit b v small value =
     let value_is : unwrap_or (hex_digit_value b) 99 ≡ v = ap (λ (o : Option ℕ). unwrap_or o 99) value in
     let P : Bool → Type 0 = λ is. cond is (ltb (unwrap_or (hex_digit_value b) 99) 16 && eqb (slice_index lower_digits (unwrap_or (hex_digit_value b) 99)) b) true ≡ true in
-    let tests = and_true (ltb (unwrap_or (hex_digit_value b) 99) 16) (eqb (slice_index lower_digits (unwrap_or (hex_digit_value b) 99)) b) (subst P small (small_comes_back b small)) in
+    let tests = and_parts (ltb (unwrap_or (hex_digit_value b) 99) 16) (eqb (slice_index lower_digits (unwrap_or (hex_digit_value b) 99)) b) (subst P small (small_comes_back b small)) in
     subst (λ (n : ℕ). (n < 16) × (slice_index lower_digits n ≡ b)) value_is (ltb-true _ _ tests.0, eqb-true _ _ tests.1)
 
 digit_read : (c i : ℕ) (o : Option ℕ) (v : ℕ) → digit_or_error c i o ≡ Ok v → o ≡ Some v
@@ -96,8 +96,8 @@ pairs_found i (a ∷ []) bytes small e = absurd cc
 pairs_found i (a ∷ b ∷ rest) bytes small e =
     let x = bind_ok (pair_value a b i) (λ byte. decode_pairs (i + 2) rest >>= λ more. read_bytes (byte ∷ more)) bytes e in
     let y = bind_ok (decode_pairs (i + 2) rest) (λ more. read_bytes (x.0 ∷ more)) bytes x.2 in
-    let p = and_true (is_small_digit a) (are_small_digits (b ∷ rest)) small in
-    let q = and_true (is_small_digit b) (are_small_digits rest) p.1 in
+    let p = and_parts (is_small_digit a) (are_small_digits (b ∷ rest)) small in
+    let q = and_parts (is_small_digit b) (are_small_digits rest) p.1 in
     let digits = pair_found i a b x.0 p.0 q.0 x.1 in
     let more = pairs_found (i + 2) rest y.0 q.1 y.1 in
     ap (λ (d : ℕ). d ∷ b ∷ rest) (sym digits.0)
@@ -137,8 +137,8 @@ unfolding bytes_at is_hex
 hex_found word bytes e =
     elim (chosen (is_hex word) (bytes_or_fault (decode_of word)) (Err Number) (Ok bytes) e) [
       | inl h ↦
-          let p = and_true (leb 2 (length word) && leb (length word) 2048) (are_small_digits word) h.0 in
-          let q = and_true (leb 2 (length word)) (leb (length word) 2048) p.0 in
+          let p = and_parts (leb 2 (length word) && leb (length word) 2048) (are_small_digits word) h.0 in
+          let q = and_parts (leb 2 (length word)) (leb (length word) 2048) p.0 in
           let decoded = bytes_or_fault_ok (decode_of word) bytes h.1 in
           let ok = decode_of-ok word bytes decoded in
           let some : 2 ≤ length word = leb-true _ _ q.0 in

@@ -2,10 +2,9 @@
 use Rattle.std.proofs.Common.{◌≡◌, ℕ, zero, suc, ◌<◌, ◌≤◌, Bool, true, false, cond, not, List, [], ◌∷◌, length, get_or, map, filter, refl, sym, ap, ◌∙◌, arith, inl, inr}
 use Rattle.std.specs.Cmp.{IsStrictWeakOrder}
 use Rattle.std.specs.List.Sorted.{ties, IsSortedBy, IsStableBy}
-use Rattle.std.proofs.lemmas.Bool.{cases_Bool}
+use Rattle.std.proofs.lemmas.Bool.{cases_Bool, not-true, and_parts}
 use Rattle.std.proofs.lemmas.List.Sorted.{sorted_far}
 use Rattle.nm_script.specs.TableText.{put_in_order, in_order}
-use Rattle.nm_script.proofs.WordLaws.{and_true, not_true}
 
 module _ {X : Type 0} (p : X → Bool) (x : X) (xs : List X) where
   kept : p x ≡ true → filter p (x ∷ xs) ≡ x ∷ filter p xs
@@ -28,8 +27,8 @@ tie before x y p q = rw (p, q) refl
 
 tied : {X : Type 0} (before : X → X → Bool) (x y : X) → ties before x y ≡ true → (before x y ≡ false) × (before y x ≡ false)
 tied before x y h =
-    let p = and_true (not (before x y)) (not (before y x)) h in
-    (not_true (before x y) p.0, not_true (before y x) p.1)
+    let p = and_parts (not (before x y)) (not (before y x)) h in
+    (not-true (before x y) p.0, not-true (before y x) p.1)
 
 module _ {X : Type 0} (before : X → X → Bool) (o : IsStrictWeakOrder before) where
   not_itself : (x : X) → before x x ≡ false

@@ -4,7 +4,7 @@ use Rattle.std.specs.Prelude.{◌&&◌, codes, position}
 use Rattle.std.specs.List.{list_any, position_or_len, AllByRecursion}
 use Rattle.std.specs.Str.{bytes_eq}
 use Rattle.std.specs.Fmt.{decimal}
-use Rattle.std.proofs.lemmas.Bool.{lt-ltb, leb-true, le-leb}
+use Rattle.std.proofs.lemmas.Bool.{lt-ltb, leb-true, le-leb, or_parts, not-true, and_parts}
 use Rattle.std.proofs.lemmas.List.{get_or-map, length-map}
 use Rattle.std.proofs.lemmas.List.Sums.{position_or_len_is}
 use Rattle.std.proofs.lemmas.List.Quantifiers.{position-Some}
@@ -29,7 +29,7 @@ use Rattle.nm_script.specs.declared.script.Why.TheVariants as why
 use Rattle.nm_script.specs.Words.{is_name, is_file_name, number_at, access_at, deny_at, lock_kind_at, bytes_at}
 use Rattle.nm_script.specs.Grammar.{name_at, server_names, file_system_names, client_names, access_word, deny_word, kind_word, open_words, close_words, lock_words, unlock_words, release_words, read_words, write_words, size_words, file_words, action_words, fs_words, fs_to_words, run_words, all_differ, IsOpen, IsClose, IsLock, IsUnlock, IsRelease, IsRead, IsWrite, IsSize, IsFile, IsAction, IsRun}
 use Rattle.nm_script.specs.Reading.{◌>>=◌, place_below, server_number, file_system_number, client_number, open_action, close_action, lock_action, unlock_action, release_action, count_at, read_action, write_action, size_action, file_action, root_at, file_at, close_at, size_at, open_at, lock_at, action_at, done_by, action_line, finish_line, do_at, with_fs, with_fs_to, fs_line, fs_to_line, fs_at, run_line}
-use Rattle.nm_script.proofs.WordLaws.{or_false, and_true, not_true, chosen, same_word, word_itself, has_space, IsWord, number_found, number_again, decimal_is_word, name_found, name_again, name_is_word, file_name_found, file_name_again, file_name_is_word, access_found, access_again, access_is_word, deny_found, deny_again, deny_is_word, kind_found, kind_again, kind_is_word}
+use Rattle.nm_script.proofs.WordLaws.{chosen, same_word, word_itself, has_space, IsWord, number_found, number_again, decimal_is_word, name_found, name_again, name_is_word, file_name_found, file_name_again, file_name_is_word, access_found, access_again, access_is_word, deny_found, deny_again, deny_is_word, kind_found, kind_again, kind_is_word}
 use Rattle.nm_script.proofs.HexLaws.{hex_found, hex_again, hex_is_word}
 
 -- the value of a step that did not fail
@@ -52,15 +52,15 @@ guard_ok false w x y e = absurd cc
 
 none_any : {X : Type 0} (p : X → Bool) (xs : List X) (k : ℕ) (d : X) → list_any p xs ≡ false → k < length xs → p (get_or xs k d) ≡ false
 none_any p [] k d none lt = absurd (omega arith)
-none_any p (x ∷ xs) zero d none lt = (or_false (p x) (list_any p xs) none).0
-none_any p (x ∷ xs) (suc k) d none lt = none_any p xs k d (or_false (p x) (list_any p xs) none).1 (omega arith)
+none_any p (x ∷ xs) zero d none lt = (or_parts (p x) (list_any p xs) none).0
+none_any p (x ∷ xs) (suc k) d none lt = none_any p xs k d (or_parts (p x) (list_any p xs) none).1 (omega arith)
 
 -- two names at two places differ
 pub differ_at : (names : List (List ℕ)) (i j : ℕ) → all_differ names ≡ true → i < j → j < length names → bytes_eq (get_or names i []) (get_or names j []) ≡ false
 differ_at [] i j h lt in' = absurd (omega arith)
 differ_at (n ∷ ns) i zero h lt in' = absurd (omega arith)
-differ_at (n ∷ ns) zero (suc j) h lt in' = none_any (bytes_eq n) ns j [] (not_true _ (and_true _ (all_differ ns) h).0) (omega arith)
-differ_at (n ∷ ns) (suc i) (suc j) h lt in' = differ_at ns i j (and_true (not (list_any (bytes_eq n) ns)) (all_differ ns) h).1 (omega arith) (omega arith)
+differ_at (n ∷ ns) zero (suc j) h lt in' = none_any (bytes_eq n) ns j [] (not-true _ (and_parts _ (all_differ ns) h).0) (omega arith)
+differ_at (n ∷ ns) (suc i) (suc j) h lt in' = differ_at ns i j (and_parts (not (list_any (bytes_eq n) ns)) (all_differ ns) h).1 (omega arith) (omega arith)
 
 below_ok : (limit : ℕ) (o : Option ℕ) (k : ℕ) → place_below limit o ≡ Ok k → o ≡ Some k
 unfolding place_below
@@ -158,7 +158,7 @@ open_found head f file access_text deny_text owner a e =
     let y = bind_ok (deny_at deny_text) (λ deny. file_system_number head f >>= λ fs. last x.0 deny fs) a x.2 in
     let z = bind_ok (file_system_number head f) (λ fs. last x.0 y.0 fs) a y.2 in
     let g = guard_ok (is_file_name file && is_name owner) why.Name (opened file owner x.0 y.0 z.0) a z.2 in
-    let n = and_true (is_file_name file) (is_name owner) g.0 in
+    let n = and_parts (is_file_name file) (is_name owner) g.0 in
     opened_is head f file access_text deny_text owner x.0 y.0 z.0 (file_system_found head f z.0 z.1) (access_found access_text x.0 x.1) (deny_found deny_text y.0 y.1) n.0 n.1 a g.1
 
 open_again : (head : Head) (a : OpenAction) → HasNames head → IsOpen head a → open_action head (name_at (file_system_names head) a.fs) a.file (access_word a.access) (deny_word a.deny) a.owner ≡ Ok a
@@ -171,7 +171,7 @@ unfolding close_action
 close_found head f file owner a e =
     let x = bind_ok (file_system_number head f) (λ fs. cond (is_file_name file && is_name owner) (done (record { fs = fs; file = file; owner = owner })) (Err why.Name)) a e in
     let g = guard_ok (is_file_name file && is_name owner) why.Name (record { fs = x.0; file = file; owner = owner }) a x.2 in
-    let n = and_true (is_file_name file) (is_name owner) g.0 in
+    let n = and_parts (is_file_name file) (is_name owner) g.0 in
     let at = file_system_found head f x.0 x.1 in
     subst (λ (c : CloseAction). (f ∷ file ∷ owner ∷ [] ≡ close_words head c) × IsClose head c) g.1
     (ap (λ (w : List ℕ). w ∷ file ∷ owner ∷ []) at.1, record { fs = at.0; file = file_name_found file n.0; owner = name_found owner n.1 })

@@ -3,9 +3,9 @@ use Rattle.std.proofs.Common.{◌≡◌, ◌≢◌, ℕ, zero, suc, ◌+◌, ◌
 use Rattle.std.specs.Prelude.{◌||◌}
 use Rattle.std.specs.List.{list_any, onto_first}
 use Rattle.std.proofs.lemmas.Bool.Decides.{eqb_tells}
+use Rattle.std.proofs.lemmas.Bool.{or_parts}
 use Rattle.nm_script.specs.Grammar.{IsLines, no_line, last_line, next_line}
 use Rattle.nm_script.specs.Reading.{lines_of, ended}
-use Rattle.nm_script.proofs.WordLaws.{or_false}
 
 -- whether a byte is a line feed
 abbrev pub is_feed : ℕ → Bool
@@ -14,12 +14,12 @@ is_feed b = eqb b 10
 -- a line ends at its line feed
 pub lines_of_ended : (line rest : List ℕ) → list_any is_feed line ≡ false → lines_of (line ++ 10 ∷ rest) ≡ line ∷ lines_of rest
 lines_of_ended [] rest none = refl
-lines_of_ended (b ∷ line) rest none = let p = or_false (is_feed b) (list_any is_feed line) none in rw (p.0, lines_of_ended line rest p.1) refl
+lines_of_ended (b ∷ line) rest none = let p = or_parts (is_feed b) (list_any is_feed line) none in rw (p.0, lines_of_ended line rest p.1) refl
 
 -- the last line may stand without one
 pub lines_of_last : (b : ℕ) (line : List ℕ) → list_any is_feed (b ∷ line) ≡ false → lines_of (b ∷ line) ≡ (b ∷ line) ∷ []
-lines_of_last b [] none = rw (or_false (is_feed b) false none).0 refl
-lines_of_last b (c ∷ line) none = let p = or_false (is_feed b) (list_any is_feed (c ∷ line)) none in rw (p.0, lines_of_last c line p.1) refl
+lines_of_last b [] none = rw (or_parts (is_feed b) false none).0 refl
+lines_of_last b (c ∷ line) none = let p = or_parts (is_feed b) (list_any is_feed (c ∷ line)) none in rw (p.0, lines_of_last c line p.1) refl
 
 onto_lines : (b : ℕ) (bytes : List ℕ) (lines : List (List ℕ)) → is_feed b ≡ false → IsLines bytes lines → IsLines (b ∷ bytes) (onto_first b lines)
 onto_lines b bytes lines plain no_line = last_line {line = b ∷ []} (omega arith) (rw plain refl)

@@ -7,7 +7,7 @@ use Rattle.std.specs.List.{list_any, list_all, slice_split, join_with_byte, AllB
 use Rattle.std.specs.Option.{option_and_then}
 use Rattle.std.specs.Str.{bytes_eq, all_ascii_digits}
 use Rattle.std.proofs.Math.Dec.{eqb-suc-zero}
-use Rattle.std.proofs.lemmas.Bool.{ltb-true, lt-ltb, leb-true, le-leb}
+use Rattle.std.proofs.lemmas.Bool.{ltb-true, lt-ltb, leb-true, le-leb, or_parts, not-true, and_parts}
 use Rattle.std.proofs.lemmas.Bool.Decides.{eqb_tells, nat_tests}
 use Rattle.std.proofs.lemmas.Slice.Eq.{bytes_eq-Decides}
 use Rattle.std.proofs.lemmas.Str.Parse.{IsNumeralModel, numerals_by_fold}
@@ -20,21 +20,9 @@ use Rattle.nm_script.specs.Grammar.{IsName, IsFileName, access_word, deny_word, 
 
 -- ---- tests
 
-pub or_false : (a b : Bool) → (a || b) ≡ false → (a ≡ false) × (b ≡ false)
-or_false true b e = absurd cc
-or_false false b e = (refl, e)
-
-pub and_true : (a b : Bool) → (a && b) ≡ true → (a ≡ true) × (b ≡ true)
-and_true true b e = (refl, e)
-and_true false b e = absurd cc
-
 pub chosen : {A : Type 0} (b : Bool) (x y z : A) → cond b x y ≡ z → ((b ≡ true) × (x ≡ z)) ⊎ ((b ≡ false) × (y ≡ z))
 chosen true x y z e = inl (refl, e)
 chosen false x y z e = inr (refl, e)
-
-pub not_true : (b : Bool) → not b ≡ true → b ≡ false
-not_true true e = absurd cc
-not_true false e = refl
 
 pub some_of : {A B : Type 0} (f : A → Option B) (o : Option A) (y : B) → option_and_then f o ≡ Some y → (x : A) × (o ≡ Some x) × (f x ≡ Some y)
 some_of f (Some x) y e = (x, refl, e)
@@ -59,11 +47,11 @@ pub record IsWord (word : List ℕ) : Type 0 where
 
 split_word : (word rest : List ℕ) → has_space word ≡ false → slice_split (λ b. eqb b 32) (word ++ 32 ∷ rest) ≡ word ∷ slice_split (λ b. eqb b 32) rest
 split_word [] rest h = refl
-split_word (b ∷ word) rest h = let p = or_false (eqb b 32) (has_space word) h in rw (p.0, split_word word rest p.1) refl
+split_word (b ∷ word) rest h = let p = or_parts (eqb b 32) (has_space word) h in rw (p.0, split_word word rest p.1) refl
 
 split_last : (word : List ℕ) → has_space word ≡ false → slice_split (λ b. eqb b 32) word ≡ word ∷ []
 split_last [] h = refl
-split_last (b ∷ word) h = let p = or_false (eqb b 32) (has_space word) h in rw (p.0, split_last word p.1) refl
+split_last (b ∷ word) h = let p = or_parts (eqb b 32) (has_space word) h in rw (p.0, split_last word p.1) refl
 
 -- the words of a line are those that it was made of
 pub words_of_line : (word : List ℕ) (words : List (List ℕ)) → IsWord word → AllByRecursion IsWord words → words_of (join_with_byte 32 (word ∷ words)) ≡ word ∷ words
@@ -89,7 +77,7 @@ unfolding with_digit
 with_digit_found n d k e =
     elim (chosen (is_ascii_digit d && ltb (10 * n + (d - 48)) (2 ^ 64)) (Some (10 * n + (d - 48))) None (Some k) e) [
       | inl h ↦
-          let p = and_true (is_ascii_digit d) (ltb (10 * n + (d - 48)) (2 ^ 64)) h.0 in
+          let p = and_parts (is_ascii_digit d) (ltb (10 * n + (d - 48)) (2 ^ 64)) h.0 in
           let same : 10 * n + (d - 48) ≡ k = cc in
           (p.0, sym same, omega (arith, ltb-true _ _ p.1, same))
       | inr h ↦ absurd cc
@@ -110,7 +98,7 @@ digits_found (d ∷ ds) n m lt e =
 digits_again : (ds : List ℕ) (n : ℕ) → all_ascii_digits ds ≡ true → read_on n ds < 2 ^ 64 → digits_at n ds ≡ Some (read_on n ds)
 digits_again [] n all lt = refl
 digits_again (d ∷ ds) n all lt =
-    let p = and_true (is_ascii_digit d) (all_ascii_digits ds) all in
+    let p = and_parts (is_ascii_digit d) (all_ascii_digits ds) all in
     rw (with_digit_again n d p.0 (omega (arith, read_on_ge (10 * n + (d - 48)) ds))) (digits_again ds (10 * n + (d - 48)) p.1 lt)
 
 number_or_fault_ok : (o : Option ℕ) (n : ℕ) → number_or_fault o ≡ Ok n → o ≡ Some n
@@ -166,7 +154,7 @@ not_space p none b here =
 pub has_none : (p : ℕ → Bool) → p 32 ≡ false → (bytes : List ℕ) → list_all p bytes ≡ true → has_space bytes ≡ false
 has_none p none [] all = refl
 has_none p none (b ∷ bytes) all =
-    let h = and_true (p b) (list_all p bytes) all in
+    let h = and_parts (p b) (list_all p bytes) all in
     rw (not_space p none b h.0, has_none p none bytes h.1) refl
 
 digits_as_all : (ds : List ℕ) → list_all is_ascii_digit ds ≡ all_ascii_digits ds
@@ -184,8 +172,8 @@ decimal_is_word n lt = record {
 pub name_found : (word : List ℕ) → is_name word ≡ true → IsName word
 unfolding is_name
 name_found word e =
-    let p = and_true (leb 1 (length word) && leb (length word) 16) (list_all is_name_byte word) e in
-    let q = and_true (leb 1 (length word)) (leb (length word) 16) p.0 in
+    let p = and_parts (leb 1 (length word) && leb (length word) 16) (list_all is_name_byte word) e in
+    let q = and_parts (leb 1 (length word)) (leb (length word) 16) p.0 in
     record { some = leb-true _ _ q.0; short = leb-true _ _ q.1; bytes = p.1 }
 
 pub name_again : (word : List ℕ) → IsName word → is_name word ≡ true
@@ -207,11 +195,11 @@ file_name_found word e =
     let dots = bytes_eq word (codes "..") in
     let some = leb 1 (length word) in
     let short = leb (length word) 64 in
-    let p = and_true (some && short && not dot && not dots) are e in
-    let q = and_true (some && short && not dot) (not dots) p.0 in
-    let r = and_true (some && short) (not dot) q.0 in
-    let t = and_true some short r.0 in
-    record { some = leb-true _ _ t.0; short = leb-true _ _ t.1; bytes = p.1; not_dot = not_true dot r.1; not_dots = not_true dots q.1 }
+    let p = and_parts (some && short && not dot && not dots) are e in
+    let q = and_parts (some && short && not dot) (not dots) p.0 in
+    let r = and_parts (some && short) (not dot) q.0 in
+    let t = and_parts some short r.0 in
+    record { some = leb-true _ _ t.0; short = leb-true _ _ t.1; bytes = p.1; not_dot = not-true dot r.1; not_dots = not-true dots q.1 }
 
 pub file_name_again : (word : List ℕ) → IsFileName word → is_file_name word ≡ true
 unfolding is_file_name

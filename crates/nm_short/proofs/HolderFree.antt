@@ -2,6 +2,7 @@
 use Rattle.std.proofs.Common.{◌≡◌, ◌≤◌, ℕ, Bool, true, false, cond, List, Option, Some, None, refl, sym, subst, ap, ◌∙◌, arith, eqb-true, inl, inr, ◌⊎◌, ⊎_elim}
 use Rattle.std.specs.Prelude.{◌==◌, ◌&&◌}
 use Rattle.std.proofs.lemmas.Bool.{eqb-false}
+use Rattle.nm_slot.proofs.SlotsFollow.{same_source as same_source_there}
 use Rattle.nm_types.specs.declared.leases.LeasePass.{LeasePass}
 use Rattle.nm_types.specs.Parties.{Party}
 use Rattle.nm_rules.specs.Seen.{Seen}
@@ -32,17 +33,6 @@ use Rattle.nm_short.proofs.AnswersSay.{never_held}
 abbrev pub is_installing : SlotStep → Bool
 is_installing (Installing its ends install.Now) = true
 is_installing _ = false
-
-same_source_there : (p : Phase) (step : SlotStep) → source_of (after_at_source p step) ≡ source_of p
-same_source_there (At q) (Beginning here dest (begin.Begun number)) = refl
-same_source_there (At q) _ = refl
-same_source_there (Closing q dest number) (Freezing (freeze.Frozen its)) = refl
-same_source_there (Closing q dest number) (Abandoning ends (abandon.Back its)) = refl
-same_source_there (Closing q dest number) _ = refl
-same_source_there (Frozen q dest number) (Committing its (Committed parties)) = refl
-same_source_there (Frozen q dest number) (Abandoning ends (abandon.Back its)) = refl
-same_source_there (Frozen q dest number) _ = refl
-same_source_there (Passing q dest number) step = refl
 
 same_elsewhere : (p : Phase) (s : ℕ) (step : SlotStep) → is_installing step ≡ false → after_elsewhere p s step ≡ p
 same_elsewhere (Passing q dest number) s (Installing its ends install.Now) e = cc

@@ -3,6 +3,7 @@ use Rattle.std.proofs.Common.{◌≡◌, ◌≤◌, ℕ, Bool, true, false, cond
 use Rattle.std.specs.Prelude.{◌==◌, ◌&&◌, ◌||◌, not, nat_le}
 use Rattle.std.specs.List.{list_all}
 use Rattle.std.proofs.lemmas.Bool.Decides.{nat_tests}
+use Rattle.nm_slot.proofs.SlotsFollow.{source_by}
 use Rattle.nm_types.specs.declared.leases.LeasePass.{LeasePass}
 use Rattle.nm_types.specs.Parties.{Party}
 use Rattle.nm_rules.specs.Seen.{Seen}
@@ -87,11 +88,6 @@ never_strays p t s epoch pass slot lease call verdict own passes (Here (Froze de
     not_out epoch passes d (subst (λ q. AreOutAt q s passes) (is_source p t s (Froze dest number) state e).phase out)
 
 -- ---- no offer meets the file system itself
-
-source_by : (s : ℕ) (doing : Doing) → source_of (phase_by s doing) ≡ s
-source_by s Serves = refl
-source_by s (Closes dest number) = refl
-source_by s (Froze dest number) = refl
 
 never_live : (p : Phase) (begins : ℕ) (move : ℕ → Move) (own : ℕ → Own) (t : Seen) (s : ℕ) (offer : Offer) (stage : Stage) → column p t s ≡ stage
     → accept.Live ≡ accept_by offer.number stage (own s) → (move offer.number).offer ≡ Some offer → Facts p begins move own t → ⊥

@@ -3,6 +3,8 @@
 use Rattle.std.proofs.Common.{◌≡◌, ◌≢◌, ℕ, Bool, true, false, cond, List, [], ◌∷◌, length, refl, sym, subst, ap, ◌∙◌, Option, Some, None, arith, eqb-true, eq-eqb}
 use Rattle.std.specs.Prelude.{◌-◌, ◌==◌, ◌^◌, ◌&&◌, ◌||◌, nat_le}
 use Rattle.std.specs.List.{list_all, list_any}
+use Rattle.std.proofs.lemmas.Bool.{and_parts}
+use Rattle.std.proofs.lemmas.List.{nil_from_length}
 use Rattle.nm_types.specs.declared.leases.LeasePass.{LeasePass}
 use Rattle.nm_types.specs.Parties.{Party}
 use Rattle.nm_rules.specs.Seen.{Seen}
@@ -119,10 +121,6 @@ one_fewer epoch (x ∷ xs) e = by_test (x == epoch) e (one_fewer epoch xs)
         longer [] e it = cc
         longer (y ∷ ys) e it = omega (arith, it)
 
-and_parts : (a b : Bool) → (a && b) ≡ true → (a ≡ true) × (b ≡ true)
-and_parts true b e = (refl, e)
-and_parts false b e = cc
-
 all_but_one : (epoch : ℕ) (p : ℕ → Bool) (passes : List ℕ) → list_all p passes ≡ true → list_all p (without_one epoch passes) ≡ true
 all_but_one epoch p [] e = refl
 all_but_one epoch p (x ∷ xs) e = by_test (x == epoch) (and_parts (p x) (list_all p xs) e) (all_but_one epoch p xs)
@@ -213,13 +211,9 @@ is_entered p t s fs own pass (Here (Froze dest number) state) e a = cc
 is_entered p t s fs own pass (Here Serves state) e a =
     record { phase = (is_source p t s Serves state e).phase; epoch = pass_epoch fs own pass (nat_le (2 ^ 63) own.out) a }
 
-none_of : (passes : List ℕ) → length passes ≡ 0 → passes ≡ []
-none_of [] e = refl
-none_of (x ∷ xs) e = absurd (omega (arith, e))
-
 none_waiting : (n number : ℕ) (own : Own) (passes : List ℕ) (b : Bool) → (own.out == 0) ≡ b → AreCounted own passes
     → freeze.Frozen n ≡ cond b (freeze.Frozen number) (freeze.Waiting own.out) → passes ≡ []
-none_waiting n number own passes true e it a = none_of passes (sym it.counted ∙ eqb-true own.out 0 e)
+none_waiting n number own passes true e it a = nil_from_length passes (sym it.counted ∙ eqb-true own.out 0 e)
 none_waiting n number own passes false e it a = cc
 
 none_frozen : (p : Phase) (t : Seen) (s n : ℕ) (own : Own) (passes : List ℕ) (stage : Stage) → column p t s ≡ stage

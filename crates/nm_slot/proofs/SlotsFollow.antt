@@ -221,7 +221,7 @@ away (Closing q dest number) t s ne = rw (ne_eqb s q ne) refl
 away (Frozen q dest number) t s ne = rw (ne_eqb s q ne) refl
 away (Passing q dest number) t s ne = refl
 
-same_source : (p : Phase) (step : SlotStep) → source_of (after_at_source p step) ≡ source_of p
+pub same_source : (p : Phase) (step : SlotStep) → source_of (after_at_source p step) ≡ source_of p
 same_source (At q) (Beginning here dest (begin.Begun number)) = refl
 same_source (At q) _ = refl
 same_source (Closing q dest number) (Freezing (freeze.Frozen its)) = refl
@@ -254,7 +254,7 @@ column_of_others p r s step t ne = by_test (r == source_of p) refl
         away (after_at_source p step) t s (λ at. apart (at ∙ same_source p step)) ∙ sym (away p t s apart)
     by_test false e = column_elsewhere p r s step t ne
 
-source_by : (r : ℕ) (doing : Doing) → source_of (phase_by r doing) ≡ r
+pub source_by : (r : ℕ) (doing : Doing) → source_of (phase_by r doing) ≡ r
 source_by r Serves = refl
 source_by r (Closes dest number) = refl
 source_by r (Froze dest number) = refl

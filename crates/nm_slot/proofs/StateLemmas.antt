@@ -1,6 +1,7 @@
 -- What stays true of the state that a slot has.
 use Rattle.std.proofs.Common.{Bool, true, false, cond, ◌≡◌, ◌≤◌, ◌+◌, ◌^◌, ℕ, refl, ap, arith, length, List, [], ◌∷◌, sym, inr, subst, Ok, Option, Some, None, ◌∙◌}
 use Rattle.std.specs.Prelude.{not, filter}
+use Rattle.nm_rules.proofs.RowLimit.{length-filter}
 use Rattle.nm_rules.specs.Answer.{answer_to}
 use Rattle.nm_rules.specs.Past.{words}
 use Rattle.nm_rules.specs.Seqids.{owners_after}
@@ -46,14 +47,6 @@ ready_after fs before room s event reply first later ready more = record {
   room = omega (arith, more, rows_grow s event reply);
 }
 
-fewer : {A : Type 0} (test : A → Bool) (xs : List A) → length (filter test xs) ≤ length xs
-fewer test [] = omega arith
-fewer test (x ∷ xs) = by_head (test x) (fewer test xs)
-  where
-    by_head : (b : Bool) → length (filter test xs) ≤ length xs → length (cond b (x ∷ filter test xs) (filter test xs)) ≤ length (x ∷ xs)
-    by_head true less = omega (arith, less)
-    by_head false less = omega (arith, less)
-
 -- The end of an instance makes no further holder.
 opens_ended : (s : Seen) (party : Party) → (after s (Ended party) (answer_to s (Ended party))).opens ≡ filter (λ row. not (same_party party row.owner.instance)) s.opens
 unfolding after_words words opens_after
@@ -67,7 +60,7 @@ owners_ended s party = refl
 rows_fall : (s : Seen) (party : Party) → rows_in (after s (Ended party) (answer_to s (Ended party))) ≤ rows_in s
 rows_fall s party =
     rw (opens_ended s party, owners_ended s party)
-    (omega (arith, fewer (λ (row : OpenRow). not (same_party party row.owner.instance)) s.opens, fewer (λ (row : OwnerRow). not (same_party party row.owner.instance)) s.owners))
+    (omega (arith, length-filter (λ (row : OpenRow). not (same_party party row.owner.instance)) s.opens, length-filter (λ (row : OwnerRow). not (same_party party row.owner.instance)) s.owners))
 
 ready_ended : (fs room : ℕ) (s : StateNow) (party : Party) → IsReady fs room s → IsReady fs room (ended s party)
 ready_ended fs room s party ready = record {
@@ -151,7 +144,7 @@ goes_done epoch lease (Here doing state) own call verdict reply place goes told 
 -- what a call leaves that is carried out
 pub called_after : (v : SlotView) (at : ℕ) (lease : Option LeasePass) (call : Call) (verdict : Verdict) (reply : Reply) (place : ℕ)
     → place ≡ v.own.count + length (ends_before lease v.stage v.own.eras) + 1
-    → called_view v lease call verdict reply ≡ slot_after v (Applying at lease call verdict (ends_before lease v.stage v.own.eras) (answer.Done place reply))
+    → called_view v lease (Asked call verdict) reply ≡ slot_after v (Applying at lease call verdict (ends_before lease v.stage v.own.eras) (answer.Done place reply))
 unfolding slot_after
 called_after v at lease call verdict reply place it = rw it refl
 

@@ -7,7 +7,6 @@ use Rattle.nm_rules.specs.Holders.{holders}
 use Rattle.nm_rules.specs.Seen.{Seen}
 use Rattle.nm_types.specs.declared.calls.Call.{Call}
 use Rattle.nm_types.specs.declared.calls.Event.{Event}
-use Rattle.nm_types.specs.declared.calls.Event.TheVariants.{Asked}
 use Rattle.nm_types.specs.declared.calls.Reply.{Reply}
 use Rattle.nm_types.specs.declared.calls.Verdict.{Verdict}
 use Rattle.nm_state.specs.State.{StateNow}
@@ -224,9 +223,9 @@ IsStop epoch lease own None = ((call : Call) (verdict : Verdict) (state : Seen) 
     → called epoch lease call verdict state ends own ≡ done_after ends call verdict state own) × (own.count < 2 ^ 63 - 2 ^ 17)
 
 -- what a call leaves that was carried out with that reply
-abbrev pub called_view : SlotView → Option LeasePass → Call → Verdict → Reply → SlotView
-called_view v lease call verdict reply = record v {
-  stage = stage_called (Asked call verdict) reply (stage_ended (ends_before lease v.stage v.own.eras) v.stage);
+abbrev pub called_view : SlotView → Option LeasePass → Event → Reply → SlotView
+called_view v lease event reply = record v {
+  stage = stage_called event reply (stage_ended (ends_before lease v.stage v.own.eras) v.stage);
   own = record v.own { count = v.own.count + length (ends_before lease v.stage v.own.eras) + 1; eras = noted_lease lease v.own.eras };
 }
 

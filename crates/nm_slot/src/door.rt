@@ -193,8 +193,30 @@ impl Slot {
         }
     }
 
-    // Carries a call out on the state that is here, as its next entry.
+    // Carries out an event, a call with its verdict, on the state that is here, as its next entry.
     #[tactic(auto, using(crate::proofs::StateLemmas::spent_by), unfolding(crate::specs::Changes::slot_after, crate::specs::SlotNow::phase_of))]
+    fn take_event(&mut self, lease: Option<&LeasePass>, event: &Event) -> Result<Reply, Memory>
+        requires here { is_staged self.old.view.stage ≡ true }
+        requires room { self.old.view.own.count < 2 ^ 63 - 2 ^ 17 }
+        ensures answer { IfOk result (λ r. IsReplyAt (stage_ended (ends_before (option_copied lease.entry) self.old.view.stage self.old.view.own.eras) self.old.view.stage) event.now r) }
+        ensures after { IfOk result (λ r. self.new.view ≡ called_view self.old.view (option_copied lease.entry) event.now r) }
+        ensures spent { OnOk result (self.new.spent ≡ false) }
+        ensures err { OnErr result (IsKeptOrSpent self.old self.new) }
+    {
+        reserve_two_more(&mut self.room, self.stage.rows())?;
+        reserve(&mut self.eras, self.brought.len())?;
+        let ended = end_earlier(&mut self.stage, &self.eras, lease);
+        match self.stage.apply(event) {
+            Ok(reply) => {
+                self.count += ended + 1;
+                note_lease(&mut self.eras, lease);
+                Ok(reply)
+            }
+            Err(fault) => Err(fault),
+        }
+    }
+
+    // Carries a call out on the state that is here, as its next entry.
     fn carry_out(
         &mut self,
         lease: Option<&LeasePass>,
@@ -204,22 +226,12 @@ impl Slot {
         requires here { is_staged self.old.view.stage ≡ true }
         requires room { self.old.view.own.count < 2 ^ 63 - 2 ^ 17 }
         ensures answer { IfOk result (λ r. IsReplyAt (stage_ended (ends_before (option_copied lease.entry) self.old.view.stage self.old.view.own.eras) self.old.view.stage) (Asked call.now verdict) r) }
-        ensures after { IfOk result (λ r. self.new.view ≡ called_view self.old.view (option_copied lease.entry) call.now verdict r) }
+        ensures after { IfOk result (λ r. self.new.view ≡ called_view self.old.view (option_copied lease.entry) (Asked call.now verdict) r) }
         ensures spent { OnOk result (self.new.spent ≡ false) }
         ensures err { OnErr result (IsKeptOrSpent self.old self.new) }
     {
         let event = Event::Asked(call.copy()?, verdict);
-        reserve_two_more(&mut self.room, self.stage.rows())?;
-        reserve(&mut self.eras, self.brought.len())?;
-        let ended = end_earlier(&mut self.stage, &self.eras, lease);
-        match self.stage.apply(&event) {
-            Ok(reply) => {
-                self.count += ended + 1;
-                note_lease(&mut self.eras, lease);
-                Ok(reply)
-            }
-            Err(fault) => Err(fault),
-        }
+        self.take_event(lease, &event)
     }
 
     /// Makes a call with a pass, in the name of a lease or of none. Where the lease is the first of a later era of its instance, what

@@ -2,6 +2,7 @@
 use Rattle.std.proofs.Common.{◌≡◌, ℕ, ◌+◌, ◌-◌, ◌<◌, ◌≤◌, ◌^◌, Bool, true, false, cond, Option, Some, None, refl, ap, arith, length}
 use Rattle.std.specs.Prelude.{not, ◌&&◌, ◌||◌, nat_le, nat_lt, max, IfSome}
 use Rattle.std.proofs.lemmas.Bool.Decides.{nat_tests}
+use Rattle.std.proofs.lemmas.Bool.{ltb-false}
 use Rattle.nm_rules.specs.Attributes.{Asks, asked_mode, asked_size, set_words, sets_any}
 use Rattle.nm_rules.specs.Contents.{file_at, files_limit, size_limit, taken, total_limit, total_size}
 use Rattle.nm_rules.specs.Data.{set_limit, write_limit, written_size}
@@ -13,9 +14,6 @@ use Rattle.nm_types.specs.declared.rows.FileRow.{FileRow}
 use Rattle.nm_types.specs.declared.status.OpStatus.TheVariants.{FBig, NoSpc, Resource}
 use Rattle.nm_rules.proofs.Classes.{or_none, refuse_if-none}
 use Rattle.nm_tree.specs.Rows.{total_with}
-
-not_above : (a b : ℕ) → nat_lt a b ≡ false → b ≤ a
-not_above a b h = grind (arith, nat_tests)
 
 -- there is a number for the next change
 pub below_end : (s : Seen) → changes_past_end s ≡ false → s.tree.change < 2 ^ 63
@@ -48,7 +46,7 @@ pub write_fits : (s : Seen) (file : ℕ) (args : WriteArgs) → write_limit s fi
     → args.offset + length (taken args.«data») ≤ size_limit
 unfolding write_limit
 write_fits s file args none =
-    not_above size_limit (args.offset + length (taken args.«data»)) (refuse_if-none _ FBig (or_none _ _ none).0)
+    ltb-false size_limit (args.offset + length (taken args.«data»)) (refuse_if-none _ FBig (or_none _ _ none).0)
 
 -- and to that of all files
 pub write_room : (s : Seen) (file : ℕ) (args : WriteArgs) → write_limit s file args ≡ None → is_empty (taken args.«data») ≡ false
@@ -60,7 +58,7 @@ write_room s file args none some =
     let its : written_size (current s file) args ≡ max (size_of (current s file)) (args.offset + length (taken args.«data»)) =
     ap (λ (b : Bool). cond b (size_of (current s file)) (max (size_of (current s file)) (args.offset + length (taken args.«data»)))) some in
     let within = rw its at full in
-    not_above total_limit _ within
+    ltb-false total_limit _ within
 
 -- and has a number for its change
 pub write_changes : (s : Seen) (file : ℕ) (args : WriteArgs) → write_limit s file args ≡ None → is_empty (taken args.«data») ≡ false
@@ -74,7 +72,7 @@ sized_room : (s : Seen) (row : Option FileRow) (size : Option ℕ) → sized_lim
     → IfSome size (λ n. total_size s.tree.table + (n - size_of row) ≤ total_limit)
 unfolding sized_limit
 sized_room s row None none = tt
-sized_room s row (Some n) none = not_above total_limit _ (refuse_if-none _ NoSpc (or_none _ _ none).1)
+sized_room s row (Some n) none = ltb-false total_limit _ (refuse_if-none _ NoSpc (or_none _ _ none).1)
 
 -- a size that is set keeps to that of all files
 pub set_room : (s : Seen) (file : ℕ) (asks : Asks) → set_limit s file asks ≡ None

@@ -1,7 +1,7 @@
 -- The tables after an answer are those that the code leaves.
 use Rattle.std.proofs.Common.{◌≡◌, ℕ, ◌+◌, Bool, true, false, cond, Option, Some, None, refl, ap, sym, subst, ◌∙◌, arith}
 use Rattle.std.specs.Prelude.{is_none, unwrap_or, ◌&&◌, ◌||◌, ◌<◌, ◌≤◌, ◌-◌, ◌^◌, nat_le, nat_lt}
-use Rattle.std.proofs.lemmas.Bool.{true≢false}
+use Rattle.std.proofs.lemmas.Bool.{true≢false, or_parts}
 use Rattle.std.proofs.lemmas.Bool.Decides.{nat_tests}
 use Rattle.nm_types.specs.Parties.{Party}
 use Rattle.nm_rules.specs.Attributes.{asked_size}
@@ -32,7 +32,7 @@ use Rattle.nm_types.specs.declared.calls.ReplyValue.TheVariants as told
 use Rattle.nm_types.specs.declared.calls.ReplyValue.{ReplyValue}
 use Rattle.nm_types.specs.declared.status.OpStatus.{OpStatus}
 use Rattle.nm_types.specs.declared.status.OpStatus.TheVariants.{Nfs4Ok, FBig, NoSpc, Resource, Denied as DeniedStatus}
-use Rattle.nm_rules.proofs.Legal.{words-refused, sound-after}
+use Rattle.nm_rules.proofs.Legal.{words-refused, sound-after, either_way}
 use Rattle.nm_rules.proofs.OwnerLaws.{same-after}
 use Rattle.nm_state.specs.State.{StateNow, ended}
 use Rattle.nm_state.specs.Opening.{open_word, after_word, after_end, Applied, HasRoom}
@@ -57,30 +57,26 @@ is_plain (deed.Lock _) = false
 is_plain (deed.LockTest _) = false
 is_plain _ = true
 
-either : {A : Type 0} (b : Bool) (x : A) → cond b x x ≡ x
-either true x = refl
-either false x = refl
-
 pub plain_refusal : (s : Seen) (caller : Option Party) (file : ℕ) (d : Deed) (status : OpStatus) → is_plain d ≡ true → refusal_value s caller file d status ≡ refused_value d
-plain_refusal s caller file (deed.Access args) status plain = either (is_denial status) _
-plain_refusal s caller file (deed.Close args) status plain = either (is_denial status) _
-plain_refusal s caller file (deed.Commit args) status plain = either (is_denial status) _
-plain_refusal s caller file (deed.Create args) status plain = either (is_denial status) _
-plain_refusal s caller file (deed.GetAttr args) status plain = either (is_denial status) _
+plain_refusal s caller file (deed.Access args) status plain = either_way (is_denial status) _
+plain_refusal s caller file (deed.Close args) status plain = either_way (is_denial status) _
+plain_refusal s caller file (deed.Commit args) status plain = either_way (is_denial status) _
+plain_refusal s caller file (deed.Create args) status plain = either_way (is_denial status) _
+plain_refusal s caller file (deed.GetAttr args) status plain = either_way (is_denial status) _
 plain_refusal s caller file (deed.Lock args) status plain = absurd (true≢false (sym plain))
 plain_refusal s caller file (deed.LockTest args) status plain = absurd (true≢false (sym plain))
-plain_refusal s caller file (deed.Lookup args) status plain = either (is_denial status) _
-plain_refusal s caller file deed.LookupP status plain = either (is_denial status) _
-plain_refusal s caller file (deed.Open args) status plain = either (is_denial status) _
-plain_refusal s caller file (deed.OpenConfirm args) status plain = either (is_denial status) _
-plain_refusal s caller file (deed.OpenDowngrade args) status plain = either (is_denial status) _
-plain_refusal s caller file (deed.Read args) status plain = either (is_denial status) _
-plain_refusal s caller file (deed.ReadDir args) status plain = either (is_denial status) _
-plain_refusal s caller file (deed.ReleaseLockOwner args) status plain = either (is_denial status) _
-plain_refusal s caller file (deed.Remove args) status plain = either (is_denial status) _
-plain_refusal s caller file (deed.SetAttr args) status plain = either (is_denial status) _
-plain_refusal s caller file (deed.Unlock args) status plain = either (is_denial status) _
-plain_refusal s caller file (deed.Write args) status plain = either (is_denial status) _
+plain_refusal s caller file (deed.Lookup args) status plain = either_way (is_denial status) _
+plain_refusal s caller file deed.LookupP status plain = either_way (is_denial status) _
+plain_refusal s caller file (deed.Open args) status plain = either_way (is_denial status) _
+plain_refusal s caller file (deed.OpenConfirm args) status plain = either_way (is_denial status) _
+plain_refusal s caller file (deed.OpenDowngrade args) status plain = either_way (is_denial status) _
+plain_refusal s caller file (deed.Read args) status plain = either_way (is_denial status) _
+plain_refusal s caller file (deed.ReadDir args) status plain = either_way (is_denial status) _
+plain_refusal s caller file (deed.ReleaseLockOwner args) status plain = either_way (is_denial status) _
+plain_refusal s caller file (deed.Remove args) status plain = either_way (is_denial status) _
+plain_refusal s caller file (deed.SetAttr args) status plain = either_way (is_denial status) _
+plain_refusal s caller file (deed.Unlock args) status plain = either_way (is_denial status) _
+plain_refusal s caller file (deed.Write args) status plain = either_way (is_denial status) _
 
 -- no status but DENIED does
 pub other_refusal : (s : Seen) (caller : Option Party) (file : ℕ) (d : Deed) (status : OpStatus) → is_denial status ≡ false → refusal_value s caller file d status ≡ refused_value d
@@ -284,18 +280,13 @@ pub room_to_take : (s : Seen) (party : Party) (file : ℕ) (args : OpenArgs) →
     → is_none (open_of (opener party args) (file_to_open s file args) s.opens) ≡ true → s.last < 2 ^ 63
 room_to_take s party file args goes = below (is_none (open_of (opener party args) (file_to_open s file args) s.opens)) s.last goes.counter
 
--- a file that an OPEN makes has room
-no_or : (a b : Bool) → (a || b) ≡ false → (a ≡ false) × (b ≡ false)
-no_or false b h = (refl, h)
-no_or true b h = absurd (true≢false h)
-
 pub room_to_make : (s : Seen) (opentype : OpenType) → tree_limit s None opentype ≡ None
     → HasRoom s.tree (unwrap_or (asked_size (opentype_asks opentype)) 0)
 unfolding tree_limit sized_limit
 room_to_make s opentype free =
     let limits = or_none (sized_limit s None (asked_size (opentype_asks opentype))) _ free in
-    let ends = no_or (changes_past_end s || nat_le (2 ^ 63) s.tree.last_file) _ (refuse_if-none _ Resource limits.1) in
-    let numbers = no_or (changes_past_end s) _ ends.0 in
+    let ends = or_parts (changes_past_end s || nat_le (2 ^ 63) s.tree.last_file) _ (refuse_if-none _ Resource limits.1) in
+    let numbers = or_parts (changes_past_end s) _ ends.0 in
     let sizes = by_size (asked_size (opentype_asks opentype)) limits.0 in
     record { changes = under _ numbers.0; files = under _ numbers.1; fits = sizes.0; room = sizes.1 }
   where

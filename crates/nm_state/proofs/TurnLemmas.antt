@@ -50,7 +50,7 @@ use Rattle.nm_types.specs.declared.rows.LockRow.{LockRow}
 use Rattle.nm_types.specs.declared.rows.OpenRow.{OpenRow}
 use Rattle.nm_types.specs.declared.status.OpStatus.{OpStatus}
 use Rattle.nm_types.specs.declared.status.OpStatus.TheVariants.{BadSeqid, BadStateId, StaleClientId}
-use Rattle.nm_rules.proofs.Legal.{SeqidTells, open_goes, repeat_is_old, seqid_tells}
+use Rattle.nm_rules.proofs.Legal.{SeqidTells, open_goes, repeat_is_old, seqid_tells, named_resolved, named_lock}
 use Rattle.nm_rules.proofs.OwnerLaws.{old-after, same-after}
 use Rattle.nm_rules.proofs.OwnerLemmas.{same_owner-Decides}
 use Rattle.nm_rules.proofs.OwnerRows.{owner_by-after}
@@ -126,18 +126,6 @@ turn_of_stop s call verdict owner (Some (Refuse status)) own stops stays its =
 turn_of_stop s call verdict owner (Some (Repeat kept)) own stops stays its =
     applied_again s call verdict kept (first_seqid (checks s call.caller call.file verdict call.deed) (Repeat kept) own stops)
 
--- what is resolvable in the file system is named by its counter
-named_resolved : (s : Seen) (stateid : StateRef) (row : OpenRow) → resolved s stateid ≡ Some row → named_by (look s) stateid ≡ Some row
-unfolding resolved named_by look
-named_resolved s Zeros row found = cc
-named_resolved s Ones row found = cc
-named_resolved s (Named id) row found = by_fs (id.fs == s.fs) found
-  where
-    by_fs : (b : Bool) → cond b (option_or (open_at id.counter s.opens) (open_at id.counter s.closed)) None ≡ Some row
-        → option_or (open_at id.counter s.opens) (open_at id.counter s.closed) ≡ Some row
-    by_fs true here = here
-    by_fs false elsewhere = cc
-
 -- an operation on an open
 at_turn : (s : Seen) (call : Call) (verdict : Verdict) (seqid : ℕ) (stateid : StateRef)
     → (checks s call.caller call.file verdict call.deed).unresolved ≡ unresolved_at call.caller (resolved s stateid)
@@ -168,17 +156,6 @@ at_turn s call verdict seqid stateid unresolved stops its = by_row (resolved s s
     by_row None found own stops = bad own
     by_row (Some row) found own stops = by_own row (is_own call.caller row) found own stops
 
--- an operation on the locks of an owner
-lock_named_here : (s : Seen) (stateid : StateRef) (row : LockRow) → lock_named s stateid ≡ Some row → lock_named_by (look s) stateid ≡ Some row
-unfolding lock_named lock_named_by look
-lock_named_here s Zeros row found = cc
-lock_named_here s Ones row found = cc
-lock_named_here s (Named id) row found = by_fs (id.fs == s.fs) found
-  where
-    by_fs : (b : Bool) → cond b (lock_at id.counter s.locks) None ≡ Some row → lock_at id.counter s.locks ≡ Some row
-    by_fs true here = here
-    by_fs false elsewhere = cc
-
 at_lock_turn : (s : Seen) (call : Call) (verdict : Verdict) (seqid : ℕ) (stateid : StateRef)
     → (checks s call.caller call.file verdict call.deed).unresolved ≡ lock_unresolved call.caller (lock_named s stateid)
     → (checks s call.caller call.file verdict call.deed).seqid ≡ lock_owner_stop_at s (lock_named s stateid) seqid call.caller call.file call.deed
@@ -199,7 +176,7 @@ at_lock_turn s call verdict seqid stateid unresolved stops its = by_row (lock_na
     by_own row true found own stops =
         turn_of_stop s call verdict row.owner (owner_stop false (owner_at row.owner s.owners) seqid call.caller call.file call.deed) own stops
         (stop_stays false (owner_at row.owner s.owners) seqid call.caller call.file call.deed)
-        (its ∙ ap (λ o. option_map (λ (r : LockRow). r.owner) o) (lock_named_here s stateid row found))
+        (its ∙ ap (λ o. option_map (λ (r : LockRow). r.owner) o) (named_lock s stateid row found))
     by_own row false found own stops = bad own
 
     by_row : (o : Option LockRow) → lock_named s stateid ≡ o → c.unresolved ≡ lock_unresolved call.caller o

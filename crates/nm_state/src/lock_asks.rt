@@ -1,6 +1,6 @@
 //! What the arguments of operations on byte-range locks ask for (RFC 7530, 16.10, 16.11 and 16.12).
 ghost use Rattle.std.specs.Prelude.{◌≡◌, ◌≤◌, false, IfOk};
-ghost use Rattle.nm_rules.specs.LockAsks.{access_for, counter_of, is_no_range, kind_of, last_of, lock_owner, range_stop};
+ghost use Rattle.nm_rules.specs.LockAsks.{access_for, counter_of, is_no_range, kind_of, last_of, last_told, lock_owner, range_stop};
 ghost use Rattle.nm_rules.specs.LockOps.{lock_fault};
 
 use crate::checks::refuse_if;
@@ -71,6 +71,19 @@ pub fn last_of(offset: u64, length: u64) -> u64
         u64::MAX
     } else {
         offset + (length - 1)
+    }
+}
+
+/// The last byte of a range as a refusal tells it. The one range of 2^64 - 1 bytes that ends before the last of all is told as
+/// one that reaches to the end, since its length is the mark of those.
+#[tactic(auto, unfolding(nm_rules::specs::LockAsks::last_told))]
+pub fn last_told(first: u64, last: u64) -> u64
+    ensures { result ≡ last_told first last }
+{
+    if first == 0 && last == u64::MAX - 1 {
+        u64::MAX
+    } else {
+        last
     }
 }
 

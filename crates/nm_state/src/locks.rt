@@ -18,7 +18,7 @@ ghost use Rattle.nm_state.specs.Taken.{counted};
 
 use crate::checks::refuse_if;
 use crate::file_ranges::{self, conflict};
-use crate::lock_asks::{Newcomer, asked, lock_owner};
+use crate::lock_asks::{Newcomer, asked, last_told, lock_owner};
 use crate::lock_rows;
 use crate::seqids::ROWS_LIMIT;
 use crate::tables::Tables;
@@ -74,7 +74,7 @@ impl Tables {
                 range: LockRange {
                     kind: held.kind,
                     first: held.first,
-                    last: held.last,
+                    last: last_told(held.first, held.last),
                 },
                 owner: row.owner.text.copy()?,
                 instance: Some(row.owner.instance),

@@ -384,6 +384,30 @@ impl Tables {
         }
     }
 
+    // Answers an owner's OPEN, and carries it out where nothing stops it.
+    fn open_by(
+        &mut self,
+        party: Instance,
+        owner: &Owner,
+        call: &Call,
+        args: &OpenArgs,
+        verdict: Verdict,
+    ) -> Result<Reply, Memory>
+        requires caller { call.now.caller ≡ Some party }
+        requires deed { call.now.deed ≡ OpenDeed args.now }
+        requires owner { owner.now ≡ opener party args.now }
+        ensures { IfOk result (λ r. Applied self.old (AskedEvent call.now verdict) r self.new) }
+    {
+        match self.turn_to_open(party, owner, call, args)? {
+            Turn::Answered(reply) => Ok(reply),
+            Turn::Of(_) => {
+                let reply = self.open_in_turn(party, owner, call, args, verdict)?;
+                self.note(owner, call, &reply, None)?;
+                Ok(reply)
+            }
+        }
+    }
+
     /// Answers an OPEN, and carries it out where nothing stops it.
     pub fn open(&mut self, call: &Call, args: &OpenArgs, verdict: Verdict) -> Result<Reply, Memory>
         requires { call.now.deed ≡ OpenDeed args.now }
@@ -393,13 +417,6 @@ impl Tables {
             return Ok(self.reply(OpStatus::StaleClientId, ReplyValue::Open(None)));
         };
         let owner = owner_of(party, args)?;
-        match self.turn_to_open(party, &owner, call, args)? {
-            Turn::Answered(reply) => Ok(reply),
-            Turn::Of(_) => {
-                let reply = self.open_in_turn(party, &owner, call, args, verdict)?;
-                self.note(&owner, call, &reply, None)?;
-                Ok(reply)
-            }
-        }
+        self.open_by(party, &owner, call, args, verdict)
     }
 }

@@ -6,6 +6,8 @@ use Rattle.std.specs.Prelude.{max, not, ◌&&◌, nat_lt, nat_le, ◌^◌}
 use Rattle.std.specs.Option.{option_or}
 use Rattle.nm_rules.specs.Lists.{is_empty}
 use Rattle.std.proofs.lemmas.Bool.Decides.{nat_tests}
+use Rattle.std.proofs.lemmas.Bool.{ltb-false}
+use Rattle.nm_rules.proofs.Classes.{refuse_if-none}
 use Rattle.nm_rules.specs.Checks.{refuse_if, arguments_fault, name_stop}
 use Rattle.nm_rules.specs.Contents.{TreeNow, size_limit, total_limit, file_at}
 use Rattle.nm_rules.specs.Names.{name_fault}
@@ -46,19 +48,12 @@ unstopped (Some status) b c d none = cc
 unstopped None (Some status) c d none = cc
 unstopped None None (Some status) d none = cc
 
-unrefused : (test : Bool) (status : OpStatus) → refuse_if test status ≡ None → test ≡ false
-unrefused true status none = cc
-unrefused false status none = refl
-
 no_end : (t : TreeNow) → changes_end t ≡ false → t.change < 2 ^ 63
 no_end t ends = grind (arith, nat_tests)
 
-within : (limit n : ℕ) → nat_lt limit n ≡ false → n ≤ limit
-within limit n past = grind (arith, nat_tests)
-
 make_ends : (t : TreeNow) (dir : ℕ) (name : List ℕ) → make_stop t dir name ≡ None → makes_end t ≡ false
 unfolding make_stop
-make_ends t dir name none = unrefused (makes_end t) Resource (or_last _ _ (or_last _ _ none))
+make_ends t dir name none = refuse_if-none (makes_end t) Resource (or_last _ _ (or_last _ _ none))
 
 pub make_changes : (t : TreeNow) (dir : ℕ) (name : List ℕ) → make_stop t dir name ≡ None → t.change < 2 ^ 63
 make_changes t dir name none = grind (arith, nat_tests, make_ends t dir name none)
@@ -68,7 +63,7 @@ make_numbers t dir name none = grind (arith, nat_tests, make_ends t dir name non
 
 pub remove_changes : (t : TreeNow) (dir : ℕ) (name : List ℕ) → remove_stop t dir name ≡ None → t.change < 2 ^ 63
 unfolding remove_stop
-remove_changes t dir name none = no_end t (unrefused (changes_end t) Resource (or_last _ _ (or_last _ _ none)))
+remove_changes t dir name none = no_end t (refuse_if-none (changes_end t) Resource (or_last _ _ (or_last _ _ none)))
 
 -- ---- listings
 
@@ -77,9 +72,9 @@ pub listed_more : (dir after : ℕ) (so_far all : List Listed) (rows : List File
     → so_far ++ map listed_as (listed dir after (drop at rows)) ≡ all
     → (so_far ++ cond (is_listed dir after row) (listed_as row ∷ []) []) ++ map listed_as (listed dir after (drop (at + 1) rows)) ≡ all
 unfolding listed
-listed_more dir after so_far all rows at row within there before =
+listed_more dir after so_far all rows at row ltb-false there before =
     by_test (is_listed dir after row)
-    (sym (ap (λ (rest : List Listed). so_far ++ rest) (at_drop_more (λ (r : List FileRow). map listed_as (listed dir after r)) rows at row within
+    (sym (ap (λ (rest : List Listed). so_far ++ rest) (at_drop_more (λ (r : List FileRow). map listed_as (listed dir after r)) rows at row ltb-false
     ∙ ap (λ (x : FileRow). map listed_as (listed dir after (x ∷ drop (at + 1) rows))) (sym there))) ∙ before)
   where
     by_test : (b : Bool) → so_far ++ map listed_as (cond b (row ∷ listed dir after (drop (at + 1) rows)) (listed dir after (drop (at + 1) rows))) ≡ all
@@ -110,19 +105,19 @@ write_limits t file offset bytes none =
     let last : Bool = not (is_empty bytes) && changes_end t in
     let clear : Unstopped (refuse_if past FBig) (refuse_if full NoSpc) (refuse_if last Resource) =
     unstopped (file_stop file t.table) (refuse_if past FBig) (refuse_if full NoSpc) (refuse_if last Resource) none in
-    record { fits = unrefused past FBig clear.second; room = unrefused full NoSpc clear.third; change = unrefused last Resource clear.fourth }
+    record { fits = refuse_if-none past FBig clear.second; room = refuse_if-none full NoSpc clear.third; change = refuse_if-none last Resource clear.fourth }
 
 pub write_changes : (t : TreeNow) (file offset : ℕ) (bytes : List ℕ) → write_stop t file offset bytes ≡ None → is_empty bytes ≡ false → t.change < 2 ^ 63
 write_changes t file offset bytes none some =
     no_end t (subst (λ (b : Bool). (not b && changes_end t) ≡ false) some (write_limits t file offset bytes none).change)
 
 pub write_fits : (t : TreeNow) (file offset : ℕ) (bytes : List ℕ) → write_stop t file offset bytes ≡ None → offset + length bytes ≤ size_limit
-write_fits t file offset bytes none = within size_limit (offset + length bytes) (write_limits t file offset bytes none).fits
+write_fits t file offset bytes none = ltb-false size_limit (offset + length bytes) (write_limits t file offset bytes none).fits
 
 pub write_room : (t : TreeNow) (file offset : ℕ) (bytes : List ℕ) → write_stop t file offset bytes ≡ None → is_empty bytes ≡ false
     → total_with file (max (size_of (file_at file t.table)) (offset + length bytes)) t.table ≤ total_limit
 write_room t file offset bytes none some =
-    within total_limit (total_with file (max (size_of (file_at file t.table)) (offset + length bytes)) t.table)
+    ltb-false total_limit (total_with file (max (size_of (file_at file t.table)) (offset + length bytes)) t.table)
     (subst (λ (b : Bool). nat_lt total_limit (total_with file (cond b (size_of (file_at file t.table)) (max (size_of (file_at file t.table)) (offset + length bytes))) t.table) ≡ false)
     some (write_limits t file offset bytes none).room)
 
@@ -134,10 +129,10 @@ size_limits t file size none =
     (refuse_if (changes_end t) Resource) none
 
 pub size_changes : (t : TreeNow) (file size : ℕ) → size_stop t file size ≡ None → t.change < 2 ^ 63
-size_changes t file size none = no_end t (unrefused (changes_end t) Resource (size_limits t file size none).fourth)
+size_changes t file size none = no_end t (refuse_if-none (changes_end t) Resource (size_limits t file size none).fourth)
 
 pub size_room : (t : TreeNow) (file size : ℕ) → size_stop t file size ≡ None → total_with file size t.table ≤ total_limit
-size_room t file size none = within total_limit (total_with file size t.table) (unrefused (nat_lt total_limit (total_with file size t.table)) NoSpc (size_limits t file size none).third)
+size_room t file size none = ltb-false total_limit (total_with file size t.table) (refuse_if-none (nat_lt total_limit (total_with file size t.table)) NoSpc (size_limits t file size none).third)
 
 -- a file ends with what was read, where no more is left than the offset
 pub ends_there : (offset size count : ℕ) → nat_le (size - count) offset ≡ nat_le size (offset + count)

@@ -4,13 +4,14 @@ use Rattle.std.specs.Prelude.{IfSome, map, filter, not, max, nat_lt, ◌==◌, �
 use Rattle.std.specs.List.{position, position_or_len}
 use Rattle.std.proofs.lemmas.Bool.Decides.{nat_tests}
 use Rattle.std.proofs.lemmas.List.{length-append, length-take, length-drop, length-replicate}
+use Rattle.nm_rules.proofs.LimitLaws.{total-push, total-filter}
 use Rattle.nm_rules.specs.Contents.{TreeNow, TreeWord, FileEdit, file_at, is_named, stamped, edited_at, edited, sized, written, total_size, total_limit, tree_after, empty_tree}
 use Rattle.nm_rules.specs.Contents.TreeWord.{Made, Edited, Removed}
 use Rattle.nm_rules.specs.Contents.FileEdit.{Wrote, Set}
 use Rattle.nm_rules.specs.Files.{size_of}
 use Rattle.nm_rules.specs.Sound.{files_rise}
 use Rattle.nm_types.specs.declared.rows.FileRow.{FileRow}
-use Rattle.nm_rules.proofs.FileRows.{files_rise-map, files_rise-filter, files_rise-push, stamped_keeps, edited_keeps}
+use Rattle.nm_rules.proofs.FileRows.{files_rise-map, files_rise-filter, files_rise-push, stamped_keeps, edited_keeps, rest_rises}
 use Rattle.nm_tree.specs.Rows.{IsTree, has_number, put_first, edit_first, resized, total_with}
 
 -- ---- the row at a place
@@ -111,9 +112,6 @@ unfolding edited
 size_put number size bytes rows row found made =
     edit_put number (Set (Some size) None) bytes rows row found (ap (λ b. record row { bytes = b }) (sym made))
 
-rest_rises : (above last : ℕ) (row : FileRow) (rows : List FileRow) → files_rise above last (row ∷ rows) ≡ true → files_rise row.number last rows ≡ true
-rest_rises above last row rows rising = grind (arith, nat_tests)
-
 head_rises : (above last : ℕ) (row : FileRow) (rows : List FileRow) → files_rise above last (row ∷ rows) ≡ true → above < row.number
 head_rises above last row rows rising = grind (arith, nat_tests)
 
@@ -169,20 +167,6 @@ total-stamped change number (x ∷ xs) = by_head (x.number == number) (total-sta
         → length (cond b (record x { change = change }) x).bytes + total_size (map (stamped change number) xs) ≡ length x.bytes + total_size xs
     by_head true later = ap (λ n. length x.bytes + n) later
     by_head false later = ap (λ n. length x.bytes + n) later
-
-total-filter : (p : FileRow → Bool) (rows : List FileRow) → total_size (filter p rows) ≤ total_size rows
-unfolding total_size
-total-filter p [] = omega arith
-total-filter p (x ∷ xs) = by_head (p x) (total-filter p xs)
-  where
-    by_head : (b : Bool) → total_size (filter p xs) ≤ total_size xs → total_size (cond b (x ∷ filter p xs) (filter p xs)) ≤ length x.bytes + total_size xs
-    by_head true later = omega (arith, later)
-    by_head false later = omega (arith, later)
-
-total-push : (rows : List FileRow) (row : FileRow) → total_size (rows ++ row ∷ []) ≡ total_size rows + length row.bytes
-unfolding total_size
-total-push [] row = omega arith
-total-push (x ∷ xs) row = omega (arith, total-push xs row)
 
 total-edited : (change dir number : ℕ) (edit : FileEdit) (size above last : ℕ) (rows : List FileRow) → files_rise above last rows ≡ true
     → ((row : FileRow) → file_at number rows ≡ Some row → length (edited edit row).bytes ≤ size)

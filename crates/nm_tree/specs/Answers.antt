@@ -10,8 +10,8 @@ use Rattle.nm_rules.specs.Contents.FileEdit.{Wrote, Set}
 use Rattle.nm_rules.specs.Contents.TreeWord.{Made, Edited}
 use Rattle.nm_rules.specs.Files.{size_of, has_entries, listed, attributes_of}
 use Rattle.nm_rules.specs.Past.{parent_of}
-use Rattle.nm_types.specs.declared.memory.Refusal.{Refusal}
-use Rattle.nm_types.specs.declared.memory.Refusal.TheVariants.{Status, Memory}
+use Rattle.nm_types.specs.declared.refusal.Refusal.{Refusal}
+use Rattle.nm_types.specs.declared.refusal.Refusal.TheVariants.{Status, Memory}
 use Rattle.nm_types.specs.declared.results.FileAttrs.{FileAttrs}
 use Rattle.nm_types.specs.declared.rows.FileKind.{FileKind}
 use Rattle.nm_types.specs.declared.rows.FileRow.{FileRow}

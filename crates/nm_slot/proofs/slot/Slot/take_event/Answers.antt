@@ -1,7 +1,7 @@
 use Rattle.std.proofs.Common.{◌≡◌, ◌+◌, arith, ap}
 use Rattle.nm_slot.specs.SlotNow.{SlotNow}
 use Rattle.nm_slot.proofs.StateLemmas.{kept_with, carried_count}
-use Rattle.nm_slot.proofs.slot.Slot.carry_out.Goals as goal
+use Rattle.nm_slot.proofs.slot.Slot.take_event.Goals as goal
 
 pub invariant_of-self-in-Ok : goal.invariant_of-self-in-Ok
 invariant_of-self-in-Ok c =
@@ -11,7 +11,7 @@ invariant_of-self-in-Ok c =
           (omega (arith, c.in_ok-reserve_two_more.ensures.ok, c.rows.ensures, c.end_earlier-ended.ensures.rows)))
           c.reserve_two_more.ensures.items
           (carried_count c.apply.new.self (c.self.inside.count + (c.end_earlier-ended.result + 1)) (omega (arith, c.requires.room, count, c.end_earlier-ended.ensures.few))),
-      record { fits = omega (arith, c.in_ok-reserve.ensures.ok, c.note_lease.ensures.len, c.note_lease.ensures.capacity, c.reserve.ensures.items) },
+      record { fits = omega (arith, c.in_ok-reserve.ensures.ok, c.note_lease.ensures.len, c.note_lease.ensures.capacity) },
     )
 
 pub invariant_of-self-in-Err : goal.invariant_of-self-in-Err
