@@ -10,6 +10,7 @@ use Rattle.nm_args.specs.declared.op.Op.{Op}
 use Rattle.nm_args.specs.declared.op.OpCode.{OpCode}
 use Rattle.nm_args.specs.declared.compound.CompoundEnd.{CompoundEnd}
 use Rattle.nm_args.specs.declared.compound.CompoundEnd.TheVariants.{Clean, Minor, TooMany, BadXdr, Illegal}
+use Rattle.nm_args.specs.declared.parts.Clientids.TheVariants.{Any}
 use Rattle.nm_args.specs.Parts.{IsWord}
 use Rattle.nm_args.specs.Operations.{number_of, code_of_number, code_of, args_at, args, IsOp, operation}
 use Rattle.nm_args.specs.Compounds.{Next, one, none_as, missing, with_args, with_code, with_number, next_at, then_by, ops_at, NoArgs, IsBehind}
@@ -34,7 +35,7 @@ with_code_one : (n : ℕ) (k : Option OpCode) (bytes : List ℕ) (o : Op) (rest 
 unfolding operation
 with_code_one n None bytes o rest is fits e = absurd cc
 with_code_one n (Some code) bytes o rest is fits e =
-    let p = args_found code bytes o rest fits (with_args_one n (args_at code bytes) o rest e) in
+    let p = args_found Any code bytes o rest fits (with_args_one n (args_at code bytes) o rest e) in
     let number : number_of (code_of o) ≡ n = ap number_of p.1.1 ∙ code_found n code is in
     (ap (λ (m : ℕ). word m ++ bytes) (sym number) ∙ ap (λ (b : List ℕ). word (number_of (code_of o)) ++ b) p.0 ∙ sym (append_assoc (word (number_of (code_of o))) (args o) rest), p.1.0)
 
@@ -58,7 +59,7 @@ no_args n (Err f) end e = (cc, (f, refl))
 unread_args : (code : OpCode) (bytes : List ℕ) (f : Fault) → args_at code bytes ≡ Err f → NoArgs code bytes
 unread_args code bytes f e o rest is fits spelt =
     let read : args_at code bytes ≡ Ok (o, rest) =
-    subst (λ (k : OpCode). args_at k bytes ≡ Ok (o, rest)) is (ap (args_at (code_of o)) spelt ∙ args_again o rest fits) in
+    subst (λ (k : OpCode). args_at k bytes ≡ Ok (o, rest)) is (ap (args_at (code_of o)) spelt ∙ args_again Any o rest fits) in
     cc
 
 with_code_none : (n : ℕ) (k : Option OpCode) (bytes : List ℕ) (end : CompoundEnd) (count : ℕ) → IsWord n → code_of_number n ≡ k → with_code n k bytes ≡ none_as end
@@ -88,7 +89,7 @@ unfolding next_at operation
 next_again o rest f =
     ap with_number (ap word_at (append_assoc (word (number_of (code_of o))) (args o) rest) ∙ word_item.again (number_of (code_of o)) (args o ++ rest) (number_small (code_of o)))
     ∙ ap (λ (k : Option OpCode). with_code (number_of (code_of o)) k (args o ++ rest)) (code_back (code_of o))
-    ∙ ap (with_args (number_of (code_of o))) (args_again o rest f)
+    ∙ ap (with_args (number_of (code_of o))) (args_again Any o rest f)
 
 next_unknown : (n : ℕ) (behind : List ℕ) → IsWord n → code_of_number n ≡ None → next_at (word n ++ behind) ≡ none_as (Illegal n)
 unfolding next_at
@@ -104,7 +105,7 @@ next_unreadable n code behind is fits unfit =
   where
     by_args : (r : Result (Op × List ℕ) Fault) → args_at code behind ≡ r → with_args n r ≡ none_as (BadXdr n)
     by_args (Ok x) e =
-        let p = args_found code behind x.0 x.1 fits e in
+        let p = args_found Any code behind x.0 x.1 fits e in
         absurd (unfit x.0 x.1 p.1.1 p.1.0 p.0)
     by_args (Err f) e = refl
 

@@ -4,7 +4,8 @@ use Rattle.std.proofs.lemmas.List.{append-nil}
 use Rattle.nm_xdr.specs.Fields.{made, IsBytes, IsItem}
 use Rattle.nm_xdr.specs.Items.{word, opaque, enum_at}
 use Rattle.nm_xdr.proofs.FieldLaws.{field_part, made_part, record_item, fits_as, spelled_as, union_item, same_value}
-use Rattle.nm_xdr.proofs.ItemLaws.{word_item, hyper_item, opaque_item, enum_item}
+use Rattle.nm_xdr.proofs.ItemLaws.{word_item, hyper_item, enum_item}
+use Rattle.nm_xdr.proofs.ByteLaws.{bytes_item}
 use Rattle.nm_types.specs.declared.args.AccessArgs.{AccessArgs}
 use Rattle.nm_types.specs.declared.args.CommitArgs.{CommitArgs}
 use Rattle.nm_types.specs.declared.args.DelegReturnArgs.{DelegReturnArgs}
@@ -20,17 +21,17 @@ use Rattle.nm_types.specs.declared.args.LookupArgs.{LookupArgs}
 use Rattle.nm_types.specs.declared.args.ReadDirArgs.{ReadDirArgs}
 use Rattle.nm_types.specs.declared.args.RemoveArgs.{RemoveArgs}
 use Rattle.nm_types.specs.Wire.{stateid_bytes}
-use Rattle.nm_attrs.specs.Bitmaps.{bitmap, IsBitmap}
-use Rattle.nm_attrs.proofs.ValueLaws.{bitmap_item}
-use Rattle.nm_attrs.proofs.MadeLaws.{made_found, made_again}
+use Rattle.nm_xdr.proofs.MadeLaws.{made_found, made_again}
+use Rattle.nm_items.specs.Parts.{bitmap, IsBitmap, IsStateRef}
+use Rattle.nm_items.proofs.PartItems.{bitmap_item, fattr_item, ref_item}
 use Rattle.nm_args.specs.declared.op.RenameArgs.{RenameArgs}
 use Rattle.nm_args.specs.declared.op.SetClientIdArgs.{SetClientIdArgs}
 use Rattle.nm_args.specs.declared.op.SetClientIdConfirmArgs.{SetClientIdConfirmArgs}
-use Rattle.nm_args.specs.Parts.{IsWord, IsName, IsStateRef}
+use Rattle.nm_args.specs.Parts.{IsWord, IsName, IsText}
 use Rattle.nm_args.specs.Data.{access, access_at, commit, commit_at, IsCommit, deleg_return, deleg_return_at, get_attr, get_attr_at, reading, reading_at, IsReading, set_attr, set_attr_at, IsSetAttr, writing, writing_at, IsWriting}
 use Rattle.nm_args.specs.Names.{Kind, file, directory, block, character, link, socket, fifo, attribute_directory, named_attribute, kind_number, kind_of, kind, device, device_at, IsDevice, kind_arm, kind_arm_at, create_type, create_type_at, IsCreateType, create, create_at, IsCreate, lookup, lookup_at, remove, remove_at, read_dir, read_dir_at, IsReadDir, rename, rename_at, IsRename}
-use Rattle.nm_args.specs.Clients.{set_client, set_client_at, IsSetClient, confirm_client, confirm_client_at, IsConfirmClient}
-use Rattle.nm_args.proofs.PartItems.{name_item, text_item, number_found, fattr_item, stateid_item, stable_item}
+use Rattle.nm_args.specs.Clients.{address, address_at, set_client, set_client_at, IsSetClient, confirm_client, confirm_client_at, IsConfirmClient}
+use Rattle.nm_args.proofs.PartItems.{name_item, text_item, number_found, stable_item}
 
 -- ---- Contents and attributes
 
@@ -58,7 +59,7 @@ deleg_return_item =
     fits_as (λ a. IsStateRef a.stateid) (λ a f. (f, tt)) (λ a f. f.0) (
     spelled_as (λ (a : DelegReturnArgs). stateid_bytes a.stateid) (λ a _. sym (append-nil (stateid_bytes a.stateid))) (
     record_item (
-    field_part (λ (a : DelegReturnArgs). a.stateid) _ (λ _. stateid_item) (
+    field_part (λ (a : DelegReturnArgs). a.stateid) _ (λ _. ref_item) (
     made_part _ (λ _. refl) (λ _. refl)))))
 
 pub get_attr_item : IsItem get_attr_at get_attr (λ a. IsBitmap a.words)
@@ -75,7 +76,7 @@ unfolding reading_at reading
 reading_item =
     fits_as IsReading (λ a f. (f.0, (f.1, (f.2, tt)))) (λ a f. (f.0, f.1.0, f.1.1.0)) (
     record_item (
-    field_part (λ (a : ReadArgs). a.stateid) _ (λ _. stateid_item) (
+    field_part (λ (a : ReadArgs). a.stateid) _ (λ _. ref_item) (
     field_part (λ (a : ReadArgs). a.offset) _ (λ _. hyper_item) (
     field_part (λ (a : ReadArgs). a.count) _ (λ _. word_item) (
     made_part _ (λ _. refl) (λ _. refl))))))
@@ -85,7 +86,7 @@ unfolding set_attr_at set_attr
 set_attr_item =
     fits_as IsSetAttr (λ a f. (f.0, (f.1, tt))) (λ a f. (f.0, f.1.0)) (
     record_item (
-    field_part (λ (a : SetAttrArgs). a.stateid) _ (λ _. stateid_item) (
+    field_part (λ (a : SetAttrArgs). a.stateid) _ (λ _. ref_item) (
     field_part (λ (a : SetAttrArgs). a.attributes) _ (λ _. fattr_item) (
     made_part _ (λ _. refl) (λ _. refl)))))
 
@@ -94,10 +95,10 @@ unfolding writing_at writing
 writing_item =
     fits_as IsWriting (λ a f. (f.0, (f.1, (tt, (f.2, tt))))) (λ a f. (f.0, f.1.0, f.1.1.1.0)) (
     record_item (
-    field_part (λ (a : WriteArgs). a.stateid) _ (λ _. stateid_item) (
+    field_part (λ (a : WriteArgs). a.stateid) _ (λ _. ref_item) (
     field_part (λ (a : WriteArgs). a.offset) _ (λ _. hyper_item) (
     field_part (λ (a : WriteArgs). a.stable) _ (λ _. stable_item) (
-    field_part (λ (a : WriteArgs). a.data) _ (λ _. opaque_item 1048576 (omega arith)) (
+    field_part (λ (a : WriteArgs). a.data) _ (λ _. bytes_item 1048576 (omega arith)) (
     made_part _ (λ _. refl) (λ _. refl)))))))
 
 -- ---- Names
@@ -238,19 +239,27 @@ rename_item =
 
 -- ---- Clients
 
+address_item : IsItem address_at address (λ a. IsText a.0 × IsText a.1)
+unfolding address_at address
+address_item =
+    fits_as (λ a. IsText a.0 × IsText a.1) (λ a f. (f.0, (f.1, tt))) (λ a f. (f.0, f.1.0)) (
+    record_item (
+    field_part (λ (a : List ℕ × List ℕ). a.0) _ (λ _. text_item) (
+    field_part (λ (a : List ℕ × List ℕ). a.1) _ (λ _. text_item) (
+    made_part _ (λ _. refl) (λ _. refl)))))
+
 pub set_client_item : IsItem set_client_at set_client IsSetClient
 unfolding set_client_at set_client
 set_client_item =
-    fits_as IsSetClient (λ a f. (f.verifier, (f.id, (f.program, (f.netid, (f.addr, (f.ident, tt)))))))
-    (λ a f. record { verifier = f.0; id = f.1.0; program = f.1.1.0; netid = f.1.1.1.0; addr = f.1.1.1.1.0; ident = f.1.1.1.1.1.0 }) (
+    fits_as IsSetClient (λ a f. (f.verifier, (f.id, (f.program, ((f.netid, f.addr), (f.ident, tt))))))
+    (λ a f. record { verifier = f.0; id = f.1.0; program = f.1.1.0; netid = f.1.1.1.0.0; addr = f.1.1.1.0.1; ident = f.1.1.1.1.0 }) (
     record_item (
     field_part (λ (a : SetClientIdArgs). a.verifier) _ (λ _. hyper_item) (
     field_part (λ (a : SetClientIdArgs). a.id) _ (λ _. text_item) (
     field_part (λ (a : SetClientIdArgs). a.program) _ (λ _. word_item) (
-    field_part (λ (a : SetClientIdArgs). a.netid) _ (λ _. text_item) (
-    field_part (λ (a : SetClientIdArgs). a.addr) _ (λ _. text_item) (
+    field_part (λ (a : SetClientIdArgs). (a.netid, a.addr)) _ (λ _. address_item) (
     field_part (λ (a : SetClientIdArgs). a.ident) _ (λ _. word_item) (
-    made_part _ (λ _. refl) (λ _. refl)))))))))
+    made_part _ (λ _. refl) (λ _. refl))))))))
 
 pub confirm_client_item : IsItem confirm_client_at confirm_client IsConfirmClient
 unfolding confirm_client_at confirm_client

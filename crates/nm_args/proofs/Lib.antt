@@ -1,9 +1,9 @@
 pub mod CompoundLaws
 pub mod DataItems
+pub mod DeedLaws
 pub mod LockItems
 pub mod LoopLaws
 pub mod OpItems
 pub mod OpenItems
 pub mod PartItems
-pub mod PartLaws
 pub mod WholeLaws

@@ -4,8 +4,8 @@ use Rattle.nm_xdr.specs.declared.fault.XdrFault.{XdrFault}
 use Rattle.nm_xdr.specs.declared.fault.XdrFault.TheVariants.{Short, Padding, Bool, TooLong, Enum}
 use Rattle.nm_xdr.specs.Fields.{Fault, ended}
 use Rattle.nm_xdr.specs.Places.{Spot, end_of, fault_of, place_of}
-use Rattle.nm_attrs.specs.declared.fault.ReadFault.{ReadFault}
-use Rattle.nm_attrs.specs.declared.fault.ReadFault.TheVariants as item
+use Rattle.nm_items.specs.declared.fault.ReadFault.{ReadFault}
+use Rattle.nm_items.specs.declared.fault.ReadFault.TheVariants as item
 use Rattle.nm_args.specs.declared.op.Op.{Op}
 use Rattle.nm_args.specs.declared.compound.CompoundEnd.{CompoundEnd}
 use Rattle.nm_args.specs.declared.compound.CompoundEnd.TheVariants.{Clean}
@@ -41,7 +41,7 @@ ops_end count i ops here from end lt read left =
     sym left.0 ∙ by_next count i ops here.rest lt ∙ ap (λ (n : Next). then_by (λ x rest. ops_at (count - (i + 1)) (ops ++ x ∷ []) rest) ops n) read
 
 -- The place of a fault, and how many bytes are left there.
-fault_place : (total : ℕ) (e : XdrFault) → place_of e ≤ total → place_of e + (fault_of total e).left ≡ total
+pub fault_place : (total : ℕ) (e : XdrFault) → place_of e ≤ total → place_of e + (fault_of total e).left ≡ total
 fault_place total (Short at) le = omega arith
 fault_place total (Padding at) le = omega arith
 fault_place total (Bool at got) le = omega arith

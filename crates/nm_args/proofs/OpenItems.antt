@@ -14,11 +14,14 @@ use Rattle.nm_types.specs.declared.args.Claim.TheVariants.{Null, Previous, Deleg
 use Rattle.nm_types.specs.declared.args.OpenConfirmArgs.{OpenConfirmArgs}
 use Rattle.nm_types.specs.declared.args.OpenDowngradeArgs.{OpenDowngradeArgs}
 use Rattle.nm_types.specs.Wire.{stateid_bytes}
-use Rattle.nm_attrs.proofs.MadeLaws.{made_found, made_again}
+use Rattle.nm_xdr.proofs.MadeLaws.{made_found, made_again}
+use Rattle.nm_items.specs.Parts.{IsStateRef}
+use Rattle.nm_items.proofs.PartItems.{fattr_item, ref_item}
 use Rattle.nm_args.specs.declared.op.OwnedOpen.{OwnedOpen}
-use Rattle.nm_args.specs.Parts.{IsName, IsStateRef}
-use Rattle.nm_args.specs.Opens.{close, close_at, IsClose, Mode, unchecked, guarded, exclusive, mode_number, mode_of, mode, how, how_at, Making, not_made, is_made, making_number, making_of, making, made_how, made_how_at, open_type, open_type_at, IsOpenType, Claiming, by_name, by_previous, by_delegation, by_earlier_delegation, claiming_number, claiming_of, claiming, claimed, claimed_at, delegated_at, claim, claim_at, IsClaim, opening, opening_at, IsOpening, confirm, confirm_at, IsConfirm, downgrade, downgrade_at, IsDowngrade}
-use Rattle.nm_args.proofs.PartItems.{name_item, text_item, number_found, fattr_item, stateid_item}
+use Rattle.nm_args.specs.Parts.{IsName}
+use Rattle.nm_args.specs.declared.parts.Clientids.{Clientids}
+use Rattle.nm_args.specs.Opens.{close, close_at, IsClose, Mode, unchecked, guarded, exclusive, mode_number, mode_of, mode, how, how_at, Making, not_made, is_made, making_number, making_of, making, made_how, made_how_at, open_type, open_type_at, IsOpenType, Claiming, by_name, by_previous, by_delegation, by_earlier_delegation, claiming_number, claiming_of, claiming, claimed, claimed_at, delegated_at, claim, claim_at, IsClaim, how_and_what, how_and_what_at, opening, opening_at, IsOpening, confirm, confirm_at, IsConfirm, downgrade, downgrade_at, IsDowngrade}
+use Rattle.nm_args.proofs.PartItems.{name_item, owner_item, number_found}
 
 -- ---- Opens
 
@@ -29,7 +32,7 @@ close_item =
     spelled_as close (λ a _. ap (λ (b : List ℕ). word a.seqid ++ b) refl) (
     record_item (
     field_part (λ (a : CloseArgs). a.seqid) _ (λ _. word_item) (
-    field_part (λ (a : CloseArgs). a.stateid) _ (λ _. stateid_item) (
+    field_part (λ (a : CloseArgs). a.stateid) _ (λ _. ref_item) (
     made_part _ (λ _. refl) (λ _. refl))))))
 
 pub confirm_item : IsItem confirm_at confirm IsConfirm
@@ -37,7 +40,7 @@ unfolding confirm_at confirm
 confirm_item =
     fits_as IsConfirm (λ a f. (f.0, (f.1, tt))) (λ a f. (f.0, f.1.0)) (
     record_item (
-    field_part (λ (a : OpenConfirmArgs). a.stateid) _ (λ _. stateid_item) (
+    field_part (λ (a : OpenConfirmArgs). a.stateid) _ (λ _. ref_item) (
     field_part (λ (a : OpenConfirmArgs). a.seqid) _ (λ _. word_item) (
     made_part _ (λ _. refl) (λ _. refl)))))
 
@@ -46,7 +49,7 @@ unfolding downgrade_at downgrade
 downgrade_item =
     fits_as IsDowngrade (λ a f. (f.0, (f.1, (f.2, (f.3, tt))))) (λ a f. (f.0, f.1.0, f.1.1.0, f.1.1.1.0)) (
     record_item (
-    field_part (λ (a : OpenDowngradeArgs). a.stateid) _ (λ _. stateid_item) (
+    field_part (λ (a : OpenDowngradeArgs). a.stateid) _ (λ _. ref_item) (
     field_part (λ (a : OpenDowngradeArgs). a.seqid) _ (λ _. word_item) (
     field_part (λ (a : OpenDowngradeArgs). a.access) _ (λ _. word_item) (
     field_part (λ (a : OpenDowngradeArgs). a.deny) _ (λ _. word_item) (
@@ -170,7 +173,7 @@ delegated_item =
     fits_as (λ d. IsStateRef d.0 × IsName d.1) (λ d f. (f.0, (f.1, tt))) (λ d f. (f.0, f.1.0)) (
     spelled_as (λ d. stateid_bytes d.0 ++ opaque d.1) (λ d _. ap (λ (b : List ℕ). stateid_bytes d.0 ++ b) (sym (append-nil (opaque d.1)))) (
     record_item (
-    field_part (λ (d : StateRef × List ℕ). d.0) _ (λ _. stateid_item) (
+    field_part (λ (d : StateRef × List ℕ). d.0) _ (λ _. ref_item) (
     field_part (λ (d : StateRef × List ℕ). d.1) _ (λ _. name_item) (
     made_part _ (λ _. refl) (λ _. refl))))))
 
@@ -203,18 +206,25 @@ pub claim_item : IsItem claim_at claim IsClaim
 unfolding claim_at claim
 claim_item = union_item claiming IsClaim (λ _ _. tt) claiming_item (λ c _. claimed_item c)
 
-pub opening_item : IsItem opening_at opening IsOpening
+how_and_what_item : IsItem how_and_what_at how_and_what (λ h. IsOpenType h.0 × IsClaim h.1)
+unfolding how_and_what_at how_and_what
+how_and_what_item =
+    fits_as (λ h. IsOpenType h.0 × IsClaim h.1) (λ h f. (f.0, (f.1, tt))) (λ h f. (f.0, f.1.0)) (
+    record_item (
+    field_part (λ (h : OpenType × Claim). h.0) _ (λ _. open_type_item) (
+    field_part (λ (h : OpenType × Claim). h.1) _ (λ _. claim_item) (
+    made_part _ (λ _. refl) (λ _. refl)))))
+
+pub opening_item : (which : Clientids) → IsItem (opening_at which) opening (IsOpening which)
 unfolding opening_at opening
-opening_item =
-    fits_as IsOpening
-    (λ o f. (f.seqid, (f.access, (f.deny, (f.clientid, (f.owner, (f.opentype, (f.claim, tt))))))))
-    (λ o f. record { seqid = f.0; access = f.1.0; deny = f.1.1.0; clientid = f.1.1.1.0; owner = f.1.1.1.1.0; opentype = f.1.1.1.1.1.0; claim = f.1.1.1.1.1.1.0 }) (
+opening_item which =
+    fits_as (IsOpening which)
+    (λ o f. (f.1.seqid, (f.1.access, (f.1.deny, ((f.0, f.1.owner), ((f.1.opentype, f.1.claim), tt))))))
+    (λ o f. (f.1.1.1.0.0, record { seqid = f.0; access = f.1.0; deny = f.1.1.0; owner = f.1.1.1.0.1; opentype = f.1.1.1.1.0.0; claim = f.1.1.1.1.0.1 })) (
     record_item (
     field_part (λ (o : OwnedOpen). o.args.seqid) _ (λ _. word_item) (
     field_part (λ (o : OwnedOpen). o.args.access) _ (λ _. word_item) (
     field_part (λ (o : OwnedOpen). o.args.deny) _ (λ _. word_item) (
-    field_part (λ (o : OwnedOpen). o.clientid) _ (λ _. hyper_item) (
-    field_part (λ (o : OwnedOpen). o.args.owner) _ (λ _. text_item) (
-    field_part (λ (o : OwnedOpen). o.args.opentype) _ (λ _. open_type_item) (
-    field_part (λ (o : OwnedOpen). o.args.claim) _ (λ _. claim_item) (
-    made_part _ (λ _. refl) (λ _. refl))))))))))
+    field_part (λ (o : OwnedOpen). (o.clientid, o.args.owner)) _ (λ _. owner_item which) (
+    field_part (λ (o : OwnedOpen). (o.args.opentype, o.args.claim)) _ (λ _. how_and_what_item) (
+    made_part _ (λ _. refl) (λ _. refl))))))))

@@ -1,9 +1,10 @@
 -- The whole of a compound: its tag, its minor version, its count, and what they are judged by.
-use Rattle.std.proofs.Common.{◌≡◌, ◌≢◌, ℕ, ◌^◌, ◌≤◌, ◌<◌, Bool, true, false, not, cond, eqb, ltb, List, [], ◌++◌, length, Result, Ok, Err, refl, sym, ap, subst, ◌∙◌, append_assoc, arith}
+use Rattle.std.proofs.Common.{◌≡◌, ◌≢◌, ℕ, ◌*◌, ◌^◌, ◌≤◌, ◌<◌, Bool, true, false, not, cond, eqb, ltb, List, [], ◌∷◌, ◌++◌, length, Result, Ok, Err, refl, sym, ap, subst, ◌∙◌, append_assoc, arith}
 use Rattle.std.specs.List.{flat_map, AllByRecursion}
 use Rattle.std.proofs.lemmas.Bool.{eqb-true, eqb-false, ne_eqb, ltb-true, ltb-false, lt-ltb, le-ltb}
+use Rattle.std.proofs.lemmas.List.{length-append}
 use Rattle.std.proofs.lemmas.List.Elements.{All-from_recursion, recursion_from_All}
-use Rattle.nm_xdr.specs.Fields.{Fault, ◌>>=◌, IsBytes, IsItem}
+use Rattle.nm_xdr.specs.Fields.{Fault, ◌>>=◌, IsBytes}
 use Rattle.nm_xdr.specs.Items.{word, opaque, word_at}
 use Rattle.nm_xdr.proofs.FieldLaws.{bind_ok, IsBytes-behind}
 use Rattle.nm_xdr.proofs.ItemLaws.{word_item}
@@ -11,24 +12,11 @@ use Rattle.nm_args.specs.declared.op.Op.{Op}
 use Rattle.nm_args.specs.declared.compound.Compound.{Compound}
 use Rattle.nm_args.specs.declared.compound.CompoundEnd.{CompoundEnd}
 use Rattle.nm_args.specs.declared.compound.CompoundEnd.TheVariants.{Clean, Minor, TooMany, BadXdr, Illegal}
-use Rattle.nm_args.specs.Parts.{text_at, IsText}
-use Rattle.nm_args.specs.Operations.{IsOp, operation}
-use Rattle.nm_args.specs.Compounds.{or_missing, tag_at, compound, CanBeWritten, ops_at, with_ops, judged, compound_of, IsBehind, EndsAfter, HasEnd, IsCompound}
+use Rattle.nm_args.specs.Parts.{text_at}
+use Rattle.nm_args.specs.Operations.{number_of, code_of, args, IsOp, operation}
+use Rattle.nm_args.specs.Compounds.{compound, CanBeWritten, ops_at, with_ops, judged, compound_of, IsBehind, EndsAfter, HasEnd, IsCompound}
 use Rattle.nm_args.proofs.PartItems.{text_item}
 use Rattle.nm_args.proofs.CompoundLaws.{AreOps, ops_found, ops_again}
-
--- ---- The tag
-
-tag_or_missing : {X : Type 0} (bytes : List ℕ) (r : Result (X × List ℕ) Fault) (x : X × List ℕ) → or_missing bytes r ≡ Ok x → r ≡ Ok x
-tag_or_missing bytes (Ok y) x e = e
-tag_or_missing bytes (Err f) x e = absurd cc
-
-tag_item : IsItem tag_at opaque IsText
-unfolding tag_at
-tag_item = record {
-  found = λ bytes x rest fits e. text_item.found bytes x rest fits (tag_or_missing bytes (text_at bytes) (x, rest) e);
-  again = λ x rest fits. rw (text_item.again x rest fits) refl;
-}
 
 -- ---- What is judged
 
@@ -91,8 +79,8 @@ judged_found tag minor count bytes c fits e = by_tests (eqb minor 0) (ltb 64 cou
 pub compound_found : (bytes : List ℕ) (c : Compound) → IsBytes bytes → compound_of bytes ≡ Ok c → IsCompound c bytes
 unfolding compound_of
 compound_found bytes c fits e =
-    let t = bind_ok (tag_at bytes) (λ (tag : List ℕ × List ℕ). word_at tag.1 >>= λ minor. word_at minor.1 >>= λ count. judged tag.0 minor.0 count.0 count.1) c e in
-    let tag = tag_item.found bytes t.0.0 t.0.1 fits t.1 in
+    let t = bind_ok (text_at bytes) (λ (tag : List ℕ × List ℕ). word_at tag.1 >>= λ minor. word_at minor.1 >>= λ count. judged tag.0 minor.0 count.0 count.1) c e in
+    let tag = text_item.found bytes t.0.0 t.0.1 fits t.1 in
     let fits_1 : IsBytes t.0.1 = IsBytes-behind (opaque t.0.0) t.0.1 (subst IsBytes tag.0 fits) in
     let m = bind_ok (word_at t.0.1) (λ (minor : ℕ × List ℕ). word_at minor.1 >>= λ count. judged t.0.0 minor.0 count.0 count.1) c t.2 in
     let minor = word_item.found t.0.1 m.0.0 m.0.1 fits_1 m.1 in
@@ -151,11 +139,44 @@ compound_again bytes c fits i =
     let fits_3 : IsBytes i.behind = IsBytes-behind (word i.count) i.behind fits_2 in
     ap compound_of i.spelled
     ∙ ap (λ (r : Result (List ℕ × List ℕ) Fault). r >>= λ tag. word_at tag.1 >>= λ minor. word_at minor.1 >>= λ count. judged tag.0 minor.0 count.0 count.1)
-    (tag_item.again c.tag (word c.minor ++ (word i.count ++ i.behind)) i.tag)
+    (text_item.again c.tag (word c.minor ++ (word i.count ++ i.behind)) i.tag)
     ∙ ap (λ (r : Result (ℕ × List ℕ) Fault). r >>= λ minor. word_at minor.1 >>= λ count. judged c.tag minor.0 count.0 count.1)
     (word_item.again c.minor (word i.count ++ i.behind) i.minor)
     ∙ ap (λ (r : Result (ℕ × List ℕ) Fault). r >>= λ count. judged c.tag c.minor count.0 count.1) (word_item.again i.count i.behind i.counts)
     ∙ by_kind c.end c i.count i.behind refl fits_3 i.ends
+
+-- ---- How much is kept
+
+four : (n : ℕ) → length (word n) ≡ 4
+unfolding word
+four n = refl
+
+-- an operation has its number
+ops_long : (ops : List Op) → 4 * length ops ≤ length (flat_map operation ops)
+unfolding operation
+ops_long [] = omega arith
+ops_long (o ∷ ops) =
+    omega (arith, ops_long ops, length-append (operation o) (flat_map operation ops), length-append (word (number_of (code_of o))) (args o), four (number_of (code_of o)))
+
+few_in : (end : CompoundEnd) (c : Compound) (count : ℕ) (behind : List ℕ) → HasEnd end c count behind → 4 * length c.ops ≤ length behind
+few_in Clean c count behind h = omega (arith, ap length h.spelled, length-append (flat_map operation c.ops) h.behind, ops_long c.ops)
+few_in (BadXdr n) c count behind h = omega (arith, ap length h.spelled, length-append (flat_map operation c.ops) h.behind, ops_long c.ops)
+few_in (Illegal n) c count behind h = omega (arith, ap length h.spelled, length-append (flat_map operation c.ops) h.behind, ops_long c.ops)
+few_in Minor c count behind h = omega (arith, ap length h.1)
+few_in (TooMany n) c count behind h = omega (arith, ap length h.3)
+
+-- Each operation that is kept has at least four bytes behind the tag, the minor version and the count.
+pub compound_few : (bytes : List ℕ) (c : Compound) → IsBytes bytes → compound_of bytes ≡ Ok c → 4 * length c.ops ≤ length bytes
+compound_few bytes c fits e =
+    let i = compound_found bytes c fits e in
+    omega (
+      arith,
+      ap length i.spelled,
+      few_in c.end c i.count i.behind i.ends,
+      length-append (opaque c.tag) (word c.minor ++ (word i.count ++ i.behind)),
+      length-append (word c.minor) (word i.count ++ i.behind),
+      length-append (word i.count) i.behind,
+    )
 
 -- ---- What is written
 
@@ -176,7 +197,7 @@ compound_written c w =
     ap (λ (b : List ℕ). opaque c.tag ++ (word c.minor ++ b)) (append_assoc (word (length c.ops)) ops []) in
     ap compound_of spelt
     ∙ ap (λ (r : Result (List ℕ × List ℕ) Fault). r >>= λ tag. word_at tag.1 >>= λ minor. word_at minor.1 >>= λ count. judged tag.0 minor.0 count.0 count.1)
-    (tag_item.again c.tag (word c.minor ++ (word (length c.ops) ++ (ops ++ []))) w.tag)
+    (text_item.again c.tag (word c.minor ++ (word (length c.ops) ++ (ops ++ []))) w.tag)
     ∙ ap (λ (r : Result (ℕ × List ℕ) Fault). r >>= λ minor. word_at minor.1 >>= λ count. judged c.tag minor.0 count.0 count.1)
     (word_item.again c.minor (word (length c.ops) ++ (ops ++ [])) minor_small)
     ∙ ap (λ (r : Result (ℕ × List ℕ) Fault). r >>= λ count. judged c.tag c.minor count.0 count.1) (word_item.again (length c.ops) (ops ++ []) small)

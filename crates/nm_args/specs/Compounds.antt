@@ -1,11 +1,11 @@
 -- The arguments of COMPOUND (RFC 7530, 15.2; RFC 7531, COMPOUND4args): their layout, and what is read of any bytes.
 use Rattle.std.specs.Prelude.{◌≡◌, ◌≢◌, ℕ, zero, suc, ◌+◌, ◌≤◌, ◌<◌, ◌==◌, not, nat_lt, List, [], ◌∷◌, ◌++◌, length, All, Option, Some, None, Result, Ok, Err, if◌then◌else◌}
 use Rattle.std.specs.List.{flat_map}
-use Rattle.nm_xdr.specs.Fields.{short, Fault, Reading, fault_at, ◌>>=◌, ended}
+use Rattle.nm_xdr.specs.Fields.{Fault, ◌>>=◌, ended}
 use Rattle.nm_xdr.specs.Items.{word, opaque, counted, structure, word_at}
 use Rattle.nm_xdr.specs.Places.{place_of}
-use Rattle.nm_attrs.specs.declared.fault.ReadFault.{ReadFault}
-use Rattle.nm_attrs.specs.declared.fault.ReadFault.TheVariants as item
+use Rattle.nm_items.specs.declared.fault.ReadFault.{ReadFault}
+use Rattle.nm_items.specs.declared.fault.ReadFault.TheVariants as item
 use Rattle.nm_args.specs.declared.op.Op.{Op}
 use Rattle.nm_args.specs.declared.op.OpCode.{OpCode}
 use Rattle.nm_args.specs.declared.compound.Compound.{Compound}
@@ -81,17 +81,9 @@ judged tag minor count bytes =
     else if nat_lt 64 count then with_ops tag minor (Ok ([], TooMany count))
     else with_ops tag minor (ops_at count [] bytes)
 
--- What is wrong in a tag doesn't matter: it is missing from its first byte on.
-abbrev pub or_missing : {X : Type 0} → List ℕ → Result (X × List ℕ) Fault → Result (X × List ℕ) Fault
-or_missing bytes (Ok x) = Ok x
-or_missing bytes (Err f) = fault_at short bytes
-
-unfoldable pub tag_at : Reading (List ℕ)
-tag_at bytes = or_missing bytes (text_at bytes)
-
 -- What is read of all of the bytes.
 unfoldable pub compound_of : List ℕ → Result Compound Fault
-compound_of bytes = tag_at bytes >>= λ tag. word_at tag.1 >>= λ minor. word_at minor.1 >>= λ count. judged tag.0 minor.0 count.0 count.1
+compound_of bytes = text_at bytes >>= λ tag. word_at tag.1 >>= λ minor. word_at minor.1 >>= λ count. judged tag.0 minor.0 count.0 count.1
 
 -- ---- What a call of the code answers
 

@@ -1,6 +1,7 @@
 pub mod Clients
 pub mod Compounds
 pub mod Data
+pub mod Deeds
 pub mod Locks
 pub mod Names
 pub mod Opens

@@ -9,9 +9,9 @@ use Rattle.nm_types.specs.declared.args.CreateArgs.{CreateArgs}
 use Rattle.nm_types.specs.declared.args.LookupArgs.{LookupArgs}
 use Rattle.nm_types.specs.declared.args.ReadDirArgs.{ReadDirArgs}
 use Rattle.nm_types.specs.declared.args.RemoveArgs.{RemoveArgs}
-use Rattle.nm_attrs.specs.Bitmaps.{bitmap, bitmap_at, IsBitmap}
+use Rattle.nm_items.specs.Parts.{bitmap, bitmap_at, IsBitmap, fattr, fattr_at, AreAttributes}
 use Rattle.nm_args.specs.declared.op.RenameArgs.{RenameArgs}
-use Rattle.nm_args.specs.Parts.{IsWord, IsHyper, name_at, IsName, fattr, fattr_at, AreAttributes}
+use Rattle.nm_args.specs.Parts.{IsWord, IsHyper, name_at, IsName}
 
 -- ---- CREATE (CREATE4args)
 

@@ -8,11 +8,14 @@ use Rattle.nm_types.specs.declared.args.OpenType.{OpenType}
 use Rattle.nm_types.specs.declared.args.OpenType.TheVariants.{NoCreate, Unchecked, Guarded, Exclusive}
 use Rattle.nm_types.specs.declared.args.Claim.{Claim}
 use Rattle.nm_types.specs.declared.args.Claim.TheVariants.{Null, Previous, DelegateCur, DelegatePrev}
+use Rattle.nm_types.specs.declared.args.OpenArgs.{OpenArgs}
 use Rattle.nm_types.specs.declared.args.OpenConfirmArgs.{OpenConfirmArgs}
 use Rattle.nm_types.specs.declared.args.OpenDowngradeArgs.{OpenDowngradeArgs}
 use Rattle.nm_types.specs.Wire.{stateid_bytes}
+use Rattle.nm_items.specs.Parts.{ref_at, IsStateRef, fattr, fattr_at, AreAttributes}
 use Rattle.nm_args.specs.declared.op.OwnedOpen.{OwnedOpen}
-use Rattle.nm_args.specs.Parts.{IsWord, IsHyper, name_at, IsName, text_at, IsText, stateid_at, IsStateRef, fattr, fattr_at, AreAttributes}
+use Rattle.nm_args.specs.declared.parts.Clientids.{Clientids}
+use Rattle.nm_args.specs.Parts.{IsWord, IsHyper, name_at, IsName, IsText, IsClientid, owner_bytes, owner_at}
 
 -- ---- CLOSE (CLOSE4args)
 
@@ -20,7 +23,7 @@ unfoldable pub close : CloseArgs → List ℕ
 close a = structure (word a.seqid ∷ stateid_bytes a.stateid ∷ [])
 
 unfoldable pub close_at : Reading CloseArgs
-close_at = field word_at (λ seqid. field stateid_at (λ stateid. made (record { seqid = seqid; stateid = stateid })))
+close_at = field word_at (λ seqid. field ref_at (λ stateid. made (record { seqid = seqid; stateid = stateid })))
 
 abbrev pub IsClose : CloseArgs → Type 0
 IsClose a = IsWord a.seqid × IsStateRef a.stateid
@@ -135,7 +138,7 @@ claim c = union (word (claiming_number (claiming c))) (claimed c)
 
 -- a stateid and a name
 unfoldable pub delegated_at : Reading (StateRef × List ℕ)
-delegated_at = field stateid_at (λ stateid. field name_at (λ name. made (stateid, name)))
+delegated_at = field ref_at (λ stateid. field name_at (λ name. made (stateid, name)))
 
 unfoldable pub claimed_at : Claiming → Reading Claim
 claimed_at by_name = field name_at (λ name. made (Null name))
@@ -152,25 +155,34 @@ IsClaim (Previous kind) = IsWord kind
 IsClaim (DelegateCur stateid name) = IsStateRef stateid × IsName name
 IsClaim (DelegatePrev name) = IsName name
 
+-- how the file is opened, and by what it is named
+unfoldable pub how_and_what : OpenType × Claim → List ℕ
+how_and_what h = structure (open_type h.0 ∷ claim h.1 ∷ [])
+
+unfoldable pub how_and_what_at : Reading (OpenType × Claim)
+how_and_what_at = field open_type_at (λ opentype. field claim_at (λ claim. made (opentype, claim)))
+
 unfoldable pub opening : OwnedOpen → List ℕ
 opening o =
     structure (
-    word o.args.seqid ∷ word o.args.access ∷ word o.args.deny ∷ hyper o.clientid ∷ opaque o.args.owner ∷ open_type o.args.opentype ∷ claim o.args.claim ∷ [])
+    word o.args.seqid ∷ word o.args.access ∷ word o.args.deny ∷ owner_bytes (o.clientid, o.args.owner) ∷ how_and_what (o.args.opentype, o.args.claim) ∷ [])
 
-unfoldable pub opening_at : Reading OwnedOpen
-opening_at =
-    field word_at (λ seqid. field word_at (λ access. field word_at (λ deny. field hyper_at (λ clientid. field text_at (λ owner.
-    field open_type_at (λ opentype. field claim_at (λ claim.
-    made (record { clientid = clientid; args = record { seqid = seqid; access = access; deny = deny; owner = owner; opentype = opentype; claim = claim } }))))))))
+unfoldable pub opening_at : Clientids → Reading OwnedOpen
+opening_at which =
+    field word_at (λ seqid. field word_at (λ access. field word_at (λ deny. field (owner_at which) (λ o.
+    field how_and_what_at (λ h.
+    made (record { clientid = o.0; args = record { seqid = seqid; access = access; deny = deny; owner = o.1; opentype = h.0; claim = h.1 } }))))))
 
-pub record IsOpening (o : OwnedOpen) : Type 0 where
-  pub seqid : IsWord o.args.seqid
-  pub access : IsWord o.args.access
-  pub deny : IsWord o.args.deny
-  pub clientid : IsHyper o.clientid
-  pub owner : IsText o.args.owner
-  pub opentype : IsOpenType o.args.opentype
-  pub claim : IsClaim o.args.claim
+pub record IsOpenArgs (a : OpenArgs) : Type 0 where
+  pub seqid : IsWord a.seqid
+  pub access : IsWord a.access
+  pub deny : IsWord a.deny
+  pub owner : IsText a.owner
+  pub opentype : IsOpenType a.opentype
+  pub claim : IsClaim a.claim
+
+abbrev pub IsOpening : Clientids → OwnedOpen → Type 0
+IsOpening which o = IsClientid which o.clientid × IsOpenArgs o.args
 
 -- ---- OPEN_CONFIRM (OPEN_CONFIRM4args)
 
@@ -178,7 +190,7 @@ unfoldable pub confirm : OpenConfirmArgs → List ℕ
 confirm a = structure (stateid_bytes a.stateid ∷ word a.seqid ∷ [])
 
 unfoldable pub confirm_at : Reading OpenConfirmArgs
-confirm_at = field stateid_at (λ stateid. field word_at (λ seqid. made (record { stateid = stateid; seqid = seqid })))
+confirm_at = field ref_at (λ stateid. field word_at (λ seqid. made (record { stateid = stateid; seqid = seqid })))
 
 abbrev pub IsConfirm : OpenConfirmArgs → Type 0
 IsConfirm a = IsStateRef a.stateid × IsWord a.seqid
@@ -190,7 +202,7 @@ downgrade a = structure (stateid_bytes a.stateid ∷ word a.seqid ∷ word a.acc
 
 unfoldable pub downgrade_at : Reading OpenDowngradeArgs
 downgrade_at =
-    field stateid_at (λ stateid. field word_at (λ seqid. field word_at (λ access. field word_at (λ deny.
+    field ref_at (λ stateid. field word_at (λ seqid. field word_at (λ access. field word_at (λ deny.
     made (record { stateid = stateid; seqid = seqid; access = access; deny = deny })))))
 
 abbrev pub IsDowngrade : OpenDowngradeArgs → Type 0

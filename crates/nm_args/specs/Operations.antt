@@ -1,13 +1,15 @@
 -- The operations: their numbers, and the layout of the arguments of each (RFC 7531, nfs_opnum4 and nfs_argop4).
 use Rattle.std.specs.Prelude.{ℕ, ◌≤◌, ◌==◌, List, [], ◌∷◌, ◌++◌, length, find, Option}
 use Rattle.nm_xdr.specs.Fields.{Reading, field, made}
-use Rattle.nm_xdr.specs.Items.{word, hyper, flag, opaque, hyper_at, flag_at, opaque_at}
-use Rattle.nm_attrs.specs.Bitmaps.{IsBitmap}
+use Rattle.nm_xdr.specs.Items.{word, hyper, flag, opaque, hyper_at, flag_at, bytes_at}
+use Rattle.nm_items.specs.Parts.{IsBitmap, IsStateRef, fattr, fattr_at, AreAttributes}
 use Rattle.nm_args.specs.declared.op.Op.{Op}
 use Rattle.nm_args.specs.declared.op.Op.TheVariants as op
 use Rattle.nm_args.specs.declared.op.OpCode.{OpCode}
 use Rattle.nm_args.specs.declared.op.OpCode.TheVariants as code
-use Rattle.nm_args.specs.Parts.{IsWord, IsHyper, name_at, IsName, IsStateRef, fattr, fattr_at, AreAttributes}
+use Rattle.nm_args.specs.declared.parts.Clientids.{Clientids}
+use Rattle.nm_args.specs.declared.parts.Clientids.TheVariants.{Any}
+use Rattle.nm_args.specs.Parts.{IsWord, IsHyper, name_at, IsName}
 use Rattle.nm_args.specs.Opens.{close, close_at, IsClose, opening, opening_at, IsOpening, confirm, confirm_at, IsConfirm, downgrade, downgrade_at, IsDowngrade}
 use Rattle.nm_args.specs.Locks.{locking, locking_at, IsLocking, lock_test, lock_test_at, IsLockTest, unlock, unlock_at, IsUnlock, release, release_at, IsRelease}
 use Rattle.nm_args.specs.Data.{access, access_at, commit, commit_at, IsCommit, deleg_return, deleg_return_at, get_attr, get_attr_at, reading, reading_at, IsReading, set_attr, set_attr_at, IsSetAttr, writing, writing_at, IsWriting}
@@ -114,47 +116,51 @@ code_of (op.ReleaseLockOwner a) = code.ReleaseLockOwner
 
 -- a filehandle (nfs_fh4)
 unfoldable pub handle_at : Reading (List ℕ)
-handle_at = opaque_at 128
+handle_at = bytes_at 128
 
--- how the arguments of each operation are read
-unfoldable pub args_at : OpCode → Reading Op
-args_at code.Access = field access_at (λ a. made (op.Access a))
-args_at code.Close = field close_at (λ a. made (op.Close a))
-args_at code.Commit = field commit_at (λ a. made (op.Commit a))
-args_at code.Create = field create_at (λ a. made (op.Create a))
-args_at code.DelegPurge = field hyper_at (λ a. made (op.DelegPurge a))
-args_at code.DelegReturn = field deleg_return_at (λ a. made (op.DelegReturn a))
-args_at code.GetAttr = field get_attr_at (λ a. made (op.GetAttr a))
-args_at code.GetFh = made op.GetFh
-args_at code.Link = field name_at (λ a. made (op.Link a))
-args_at code.Lock = field locking_at (λ a. made (op.Lock a))
-args_at code.LockT = field lock_test_at (λ a. made (op.LockT a))
-args_at code.LockU = field unlock_at (λ a. made (op.LockU a))
-args_at code.Lookup = field lookup_at (λ a. made (op.Lookup a))
-args_at code.LookupP = made op.LookupP
-args_at code.NVerify = field fattr_at (λ a. made (op.NVerify a))
-args_at code.Open = field opening_at (λ a. made (op.Open a))
-args_at code.OpenAttr = field flag_at (λ a. made (op.OpenAttr a))
-args_at code.OpenConfirm = field confirm_at (λ a. made (op.OpenConfirm a))
-args_at code.OpenDowngrade = field downgrade_at (λ a. made (op.OpenDowngrade a))
-args_at code.PutFh = field handle_at (λ a. made (op.PutFh a))
-args_at code.PutPubFh = made op.PutPubFh
-args_at code.PutRootFh = made op.PutRootFh
-args_at code.Read = field reading_at (λ a. made (op.Read a))
-args_at code.ReadDir = field read_dir_at (λ a. made (op.ReadDir a))
-args_at code.ReadLink = made op.ReadLink
-args_at code.Remove = field remove_at (λ a. made (op.Remove a))
-args_at code.Rename = field rename_at (λ a. made (op.Rename a))
-args_at code.Renew = field hyper_at (λ a. made (op.Renew a))
-args_at code.RestoreFh = made op.RestoreFh
-args_at code.SaveFh = made op.SaveFh
-args_at code.SecInfo = field name_at (λ a. made (op.SecInfo a))
-args_at code.SetAttr = field set_attr_at (λ a. made (op.SetAttr a))
-args_at code.SetClientId = field set_client_at (λ a. made (op.SetClientId a))
-args_at code.SetClientIdConfirm = field confirm_client_at (λ a. made (op.SetClientIdConfirm a))
-args_at code.Verify = field fattr_at (λ a. made (op.Verify a))
-args_at code.Write = field writing_at (λ a. made (op.Write a))
-args_at code.ReleaseLockOwner = field release_at (λ a. made (op.ReleaseLockOwner a))
+-- how the arguments of each operation are read, with these clientids of owners
+unfoldable pub args_by : Clientids → OpCode → Reading Op
+args_by which code.Access = field access_at (λ a. made (op.Access a))
+args_by which code.Close = field close_at (λ a. made (op.Close a))
+args_by which code.Commit = field commit_at (λ a. made (op.Commit a))
+args_by which code.Create = field create_at (λ a. made (op.Create a))
+args_by which code.DelegPurge = field hyper_at (λ a. made (op.DelegPurge a))
+args_by which code.DelegReturn = field deleg_return_at (λ a. made (op.DelegReturn a))
+args_by which code.GetAttr = field get_attr_at (λ a. made (op.GetAttr a))
+args_by which code.GetFh = made op.GetFh
+args_by which code.Link = field name_at (λ a. made (op.Link a))
+args_by which code.Lock = field (locking_at which) (λ a. made (op.Lock a))
+args_by which code.LockT = field (lock_test_at which) (λ a. made (op.LockT a))
+args_by which code.LockU = field unlock_at (λ a. made (op.LockU a))
+args_by which code.Lookup = field lookup_at (λ a. made (op.Lookup a))
+args_by which code.LookupP = made op.LookupP
+args_by which code.NVerify = field fattr_at (λ a. made (op.NVerify a))
+args_by which code.Open = field (opening_at which) (λ a. made (op.Open a))
+args_by which code.OpenAttr = field flag_at (λ a. made (op.OpenAttr a))
+args_by which code.OpenConfirm = field confirm_at (λ a. made (op.OpenConfirm a))
+args_by which code.OpenDowngrade = field downgrade_at (λ a. made (op.OpenDowngrade a))
+args_by which code.PutFh = field handle_at (λ a. made (op.PutFh a))
+args_by which code.PutPubFh = made op.PutPubFh
+args_by which code.PutRootFh = made op.PutRootFh
+args_by which code.Read = field reading_at (λ a. made (op.Read a))
+args_by which code.ReadDir = field read_dir_at (λ a. made (op.ReadDir a))
+args_by which code.ReadLink = made op.ReadLink
+args_by which code.Remove = field remove_at (λ a. made (op.Remove a))
+args_by which code.Rename = field rename_at (λ a. made (op.Rename a))
+args_by which code.Renew = field hyper_at (λ a. made (op.Renew a))
+args_by which code.RestoreFh = made op.RestoreFh
+args_by which code.SaveFh = made op.SaveFh
+args_by which code.SecInfo = field name_at (λ a. made (op.SecInfo a))
+args_by which code.SetAttr = field set_attr_at (λ a. made (op.SetAttr a))
+args_by which code.SetClientId = field set_client_at (λ a. made (op.SetClientId a))
+args_by which code.SetClientIdConfirm = field confirm_client_at (λ a. made (op.SetClientIdConfirm a))
+args_by which code.Verify = field fattr_at (λ a. made (op.Verify a))
+args_by which code.Write = field writing_at (λ a. made (op.Write a))
+args_by which code.ReleaseLockOwner = field (release_at which) (λ a. made (op.ReleaseLockOwner a))
+
+-- with any of them
+abbrev pub args_at : OpCode → Reading Op
+args_at = args_by Any
 
 -- and how they are spelled
 unfoldable pub args : Op → List ℕ
@@ -196,45 +202,48 @@ args (op.Verify a) = fattr a
 args (op.Write a) = writing a
 args (op.ReleaseLockOwner a) = release a
 
--- numbers are within their size, and lengths within their limits
+-- numbers are within their size, lengths within their limits, and clientids of owners among these
+abbrev pub IsOpBy : Clientids → Op → Type 0
+IsOpBy which (op.Access a) = IsWord a.access
+IsOpBy which (op.Close a) = IsClose a
+IsOpBy which (op.Commit a) = IsCommit a
+IsOpBy which (op.Create a) = IsCreate a
+IsOpBy which (op.DelegPurge a) = IsHyper a
+IsOpBy which (op.DelegReturn a) = IsStateRef a.stateid
+IsOpBy which (op.GetAttr a) = IsBitmap a.words
+IsOpBy which op.GetFh = Unit {0}
+IsOpBy which (op.Link a) = IsName a
+IsOpBy which (op.Lock a) = IsLocking which a
+IsOpBy which (op.LockT a) = IsLockTest which a
+IsOpBy which (op.LockU a) = IsUnlock a
+IsOpBy which (op.Lookup a) = IsName a.name
+IsOpBy which op.LookupP = Unit {0}
+IsOpBy which (op.NVerify a) = AreAttributes a
+IsOpBy which (op.Open a) = IsOpening which a
+IsOpBy which (op.OpenAttr a) = Unit {0}
+IsOpBy which (op.OpenConfirm a) = IsConfirm a
+IsOpBy which (op.OpenDowngrade a) = IsDowngrade a
+IsOpBy which (op.PutFh a) = length a ≤ 128
+IsOpBy which op.PutPubFh = Unit {0}
+IsOpBy which op.PutRootFh = Unit {0}
+IsOpBy which (op.Read a) = IsReading a
+IsOpBy which (op.ReadDir a) = IsReadDir a
+IsOpBy which op.ReadLink = Unit {0}
+IsOpBy which (op.Remove a) = IsName a.name
+IsOpBy which (op.Rename a) = IsRename a
+IsOpBy which (op.Renew a) = IsHyper a
+IsOpBy which op.RestoreFh = Unit {0}
+IsOpBy which op.SaveFh = Unit {0}
+IsOpBy which (op.SecInfo a) = IsName a
+IsOpBy which (op.SetAttr a) = IsSetAttr a
+IsOpBy which (op.SetClientId a) = IsSetClient a
+IsOpBy which (op.SetClientIdConfirm a) = IsConfirmClient a
+IsOpBy which (op.Verify a) = AreAttributes a
+IsOpBy which (op.Write a) = IsWriting a
+IsOpBy which (op.ReleaseLockOwner a) = IsRelease which a
+
 abbrev pub IsOp : Op → Type 0
-IsOp (op.Access a) = IsWord a.access
-IsOp (op.Close a) = IsClose a
-IsOp (op.Commit a) = IsCommit a
-IsOp (op.Create a) = IsCreate a
-IsOp (op.DelegPurge a) = IsHyper a
-IsOp (op.DelegReturn a) = IsStateRef a.stateid
-IsOp (op.GetAttr a) = IsBitmap a.words
-IsOp op.GetFh = Unit {0}
-IsOp (op.Link a) = IsName a
-IsOp (op.Lock a) = IsLocking a
-IsOp (op.LockT a) = IsLockTest a
-IsOp (op.LockU a) = IsUnlock a
-IsOp (op.Lookup a) = IsName a.name
-IsOp op.LookupP = Unit {0}
-IsOp (op.NVerify a) = AreAttributes a
-IsOp (op.Open a) = IsOpening a
-IsOp (op.OpenAttr a) = Unit {0}
-IsOp (op.OpenConfirm a) = IsConfirm a
-IsOp (op.OpenDowngrade a) = IsDowngrade a
-IsOp (op.PutFh a) = length a ≤ 128
-IsOp op.PutPubFh = Unit {0}
-IsOp op.PutRootFh = Unit {0}
-IsOp (op.Read a) = IsReading a
-IsOp (op.ReadDir a) = IsReadDir a
-IsOp op.ReadLink = Unit {0}
-IsOp (op.Remove a) = IsName a.name
-IsOp (op.Rename a) = IsRename a
-IsOp (op.Renew a) = IsHyper a
-IsOp op.RestoreFh = Unit {0}
-IsOp op.SaveFh = Unit {0}
-IsOp (op.SecInfo a) = IsName a
-IsOp (op.SetAttr a) = IsSetAttr a
-IsOp (op.SetClientId a) = IsSetClient a
-IsOp (op.SetClientIdConfirm a) = IsConfirmClient a
-IsOp (op.Verify a) = AreAttributes a
-IsOp (op.Write a) = IsWriting a
-IsOp (op.ReleaseLockOwner a) = IsRelease a
+IsOp = IsOpBy Any
 
 -- an operation: its number and its arguments
 unfoldable pub operation : Op → List ℕ

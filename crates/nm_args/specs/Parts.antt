@@ -1,17 +1,13 @@
 -- Items that several operations have (RFC 7531).
-use Rattle.std.specs.Prelude.{◌≡◌, ℕ, ◌^◌, ◌<◌, ◌≤◌, false, ◌==◌, List, [], ◌∷◌, length, find, Option}
-use Rattle.nm_xdr.specs.Fields.{Reading, field, made}
-use Rattle.nm_xdr.specs.Items.{opaque, structure, word_at, fixed_at, opaque_at, enum_at}
-use Rattle.nm_types.specs.declared.calls.StateId.{StateId}
-use Rattle.nm_types.specs.declared.calls.StateRef.{StateRef}
-use Rattle.nm_types.specs.declared.calls.StateRef.TheVariants.{Zeros, Ones, Named}
-use Rattle.nm_types.specs.declared.args.Fattr.{Fattr}
+use Rattle.std.specs.Prelude.{◌≡◌, ℕ, ◌^◌, ◌<◌, ◌≤◌, ◌==◌, List, [], ◌∷◌, length, find, Option}
+use Rattle.nm_xdr.specs.Fields.{short, Reading, field, made, tested}
+use Rattle.nm_xdr.specs.Items.{hyper, opaque, structure, hyper_at, bytes_at, enum_at}
 use Rattle.nm_types.specs.declared.args.LockType.{LockType}
 use Rattle.nm_types.specs.declared.args.LockType.TheVariants as lock
 use Rattle.nm_types.specs.declared.args.Stable.{Stable}
 use Rattle.nm_types.specs.declared.args.Stable.TheVariants as stable
-use Rattle.nm_types.specs.Wire.{stateid_of, is_zeros, is_ones}
-use Rattle.nm_attrs.specs.Bitmaps.{bitmap, bitmap_at, IsBitmap}
+use Rattle.nm_args.specs.declared.parts.Clientids.{Clientids}
+use Rattle.nm_args.specs.declared.parts.Clientids.TheVariants.{Any, Zero}
 
 -- ---- Numbers and texts
 
@@ -23,46 +19,38 @@ IsHyper n = n < 2 ^ 64
 
 -- a name (component4)
 unfoldable pub name_at : Reading (List ℕ)
-name_at = opaque_at 1048576
+name_at = bytes_at 1048576
 
 abbrev pub IsName : List ℕ → Type 0
 IsName name = length name ≤ 1048576
 
 -- the text of an owner, a client's string, a tag or an address (NFS4_OPAQUE_LIMIT)
 unfoldable pub text_at : Reading (List ℕ)
-text_at = opaque_at 1024
+text_at = bytes_at 1024
 
 abbrev pub IsText : List ℕ → Type 0
 IsText text = length text ≤ 1024
 
--- ---- Stateids (stateid4), whose 16 bytes are those of Wire
+-- ---- Clientids, and owners of opens and locks
 
-unfoldable pub stateid_at : Reading StateRef
-stateid_at = field word_at (λ seqid. field (fixed_at 12) (λ other. made (stateid_of seqid other)))
+-- Any clientid, as in a request; or 0 alone, which stands in a kept call for that of its caller.
+abbrev pub clientid_at : Clientids → Reading ℕ
+clientid_at Any = hyper_at
+clientid_at Zero = tested (λ n. n == 0) (λ _. short) hyper_at
 
--- a stateid that isn't one of the special ones
-pub record IsNamed (s : StateId) : Type 0 where
-  pub seqid : IsWord s.seqid
-  pub fs : IsWord s.fs
-  pub counter : IsHyper s.counter
-  pub not_zeros : is_zeros s ≡ false
-  pub not_ones : is_ones s ≡ false
+abbrev pub IsClientid : Clientids → ℕ → Type 0
+IsClientid Any n = IsHyper n
+IsClientid Zero n = n ≡ 0
 
-abbrev pub IsStateRef : StateRef → Type 0
-IsStateRef Zeros = Unit {0}
-IsStateRef Ones = Unit {0}
-IsStateRef (Named s) = IsNamed s
+-- an owner: a clientid and a text (open_owner4, lock_owner4)
+unfoldable pub owner_bytes : ℕ × List ℕ → List ℕ
+owner_bytes o = structure (hyper o.0 ∷ opaque o.1 ∷ [])
 
--- ---- Attributes (fattr4), as they came
+unfoldable pub owner_at : Clientids → Reading (ℕ × List ℕ)
+owner_at which = field (clientid_at which) (λ clientid. field text_at (λ text. made (clientid, text)))
 
-unfoldable pub fattr : Fattr → List ℕ
-fattr f = structure (bitmap f.words ∷ opaque f.values ∷ [])
-
-unfoldable pub fattr_at : Reading Fattr
-fattr_at = field bitmap_at (λ words. field (opaque_at 65536) (λ values. made (record { words = words; values = values })))
-
-abbrev pub AreAttributes : Fattr → Type 0
-AreAttributes f = IsBitmap f.words × (length f.values ≤ 65536)
+abbrev pub IsOwner : Clientids → ℕ × List ℕ → Type 0
+IsOwner which o = IsClientid which o.0 × IsText o.1
 
 -- ---- Enumerations
 

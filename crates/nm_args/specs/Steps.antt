@@ -2,9 +2,8 @@
 use Rattle.std.specs.Prelude.{◌≡◌, ℕ, ◌≤◌, List, Result, Ok, Err}
 use Rattle.nm_xdr.specs.Fields.{Fault}
 use Rattle.nm_xdr.specs.Places.{Spot, end_of, fault_of, place_of}
-use Rattle.nm_xdr.specs.declared.fault.XdrFault.TheVariants.{Short}
-use Rattle.nm_attrs.specs.declared.fault.ReadFault.{ReadFault}
-use Rattle.nm_attrs.specs.declared.fault.ReadFault.TheVariants as item
+use Rattle.nm_items.specs.declared.fault.ReadFault.{ReadFault}
+use Rattle.nm_items.specs.declared.fault.ReadFault.TheVariants as item
 use Rattle.nm_args.specs.declared.op.Op.{Op}
 use Rattle.nm_args.specs.declared.compound.CompoundEnd.{CompoundEnd}
 use Rattle.nm_args.specs.declared.compound.CompoundEnd.TheVariants.{BadXdr}
@@ -18,11 +17,6 @@ use Rattle.nm_args.specs.Compounds.{one, none_as, missing, next_at, IsRefused}
 abbrev pub unread : ReadFault → ℕ → Result TakenNext ReadFault
 unread (item.Xdr e) n = Ok (End (BadXdr n))
 unread item.Memory n = Err item.Memory
-
--- whatever is wrong with an item, it is missing from this place on
-abbrev pub missing_at : ReadFault → ℕ → ReadFault
-missing_at (item.Xdr e) at = item.Xdr (Short at)
-missing_at item.Memory at = item.Memory
 
 -- A call that takes the next operation gives what it is, and leaves the cursor behind it where there is one.
 abbrev pub IsNext : Spot → TakenNext → Spot → Type 0

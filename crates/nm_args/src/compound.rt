@@ -2,8 +2,7 @@
 ghost use Rattle.std.specs.Prelude.{◌≡◌};
 
 use crate::Ops;
-use crate::reading::place_of_fault;
-use nm_attrs::ReadFault;
+use nm_items::ReadFault;
 use nm_types::{Bytes, Memory};
 
 /// The arguments of a COMPOUND (RFC 7530, 15.2).
@@ -62,9 +61,7 @@ impl From<ReadFault> for ArgsFault {
 
     fn from(fault: ReadFault) -> Self {
         match fault {
-            ReadFault::Xdr(fault) => ArgsFault::GarbageAt {
-                at: place_of_fault(fault),
-            },
+            ReadFault::Xdr(fault) => ArgsFault::GarbageAt { at: fault.place() },
             ReadFault::Memory => ArgsFault::Memory,
         }
     }

@@ -1,25 +1,33 @@
 //! The arguments of operations on byte-range locks: LOCK, LOCKT, LOCKU and RELEASE_LOCKOWNER.
-ghost use Rattle.std.specs.Prelude.{◌≡◌, ◌++◌, OnOk, true, false};
-ghost use Rattle.nm_attrs.specs.Takes.{Takes};
-ghost use Rattle.nm_args.specs.Locks.{locker, locker_arm, locker_arm_at, locker_at, IsLocker, locking, locking_at, IsLocking, lock_test, lock_test_at, IsLockTest, unlock, unlock_at, release, release_at, IsRelease};
+ghost use Rattle.std.specs.Prelude.{true, false};
+ghost use Rattle.nm_xdr.specs.Fields.{field, made};
+ghost use Rattle.nm_xdr.specs.Places.{Puts};
+ghost use Rattle.nm_items.specs.Takes.{Takes};
+ghost use Rattle.nm_args.specs.declared.op.Op.TheVariants as op;
+ghost use Rattle.nm_args.specs.Parts.{IsText};
+ghost use Rattle.nm_args.specs.Locks.{locker, locker_arm_at, locker_at, IsLocker, locking, locking_at, IsLockArgs, lock_test, lock_test_at, IsLockTestArgs, unlock, unlock_at, release, release_at};
 
-use crate::parts::{put_lock_type, put_stateid, take_lock_type, take_stateid, take_text};
-use crate::{OwnedLock, OwnedLockTest, OwnedLocker, OwnedRelease};
-use nm_attrs::ReadFault;
+use crate::parts::{Clientids, put_lock_type, put_owner, take_lock_type, take_owner};
+use crate::{Op, OwnedLock, OwnedLockTest, OwnedLocker, OwnedRelease};
+use nm_items::{ReadFault, put_ref, take_ref};
 use nm_types::{LockArgs, LockTestArgs, Locker, ReleaseLockOwnerArgs, UnlockArgs};
 use nm_xdr::{Cursor, Memory, Writer};
 use std::alloc::Global;
 
 #[tactic(auto, unfolding(crate::specs::Locks::locking_at))]
-pub(crate) fn take_lock(alloc: Global, cursor: &mut Cursor<'_>) -> Result<OwnedLock, ReadFault>
-    ensures { Takes locking_at cursor.old result cursor.new }
+pub(crate) fn take_lock(
+    alloc: Global,
+    cursor: &mut Cursor<'_>,
+    which: Clientids,
+) -> Result<Op, ReadFault>
+    ensures { Takes (field (locking_at which) (λ a. made (op.Lock a))) cursor.old result cursor.new }
 {
     let kind = take_lock_type(cursor)?;
     let reclaim = cursor.take_bool()?;
     let offset = cursor.take_u64()?;
     let length = cursor.take_u64()?;
-    let OwnedLocker { clientid, locker } = take_locker(alloc, cursor)?;
-    Ok(OwnedLock {
+    let OwnedLocker { clientid, locker } = take_locker(alloc, cursor, which)?;
+    Ok(Op::Lock(OwnedLock {
         clientid,
         args: LockArgs {
             kind,
@@ -28,43 +36,50 @@ pub(crate) fn take_lock(alloc: Global, cursor: &mut Cursor<'_>) -> Result<OwnedL
             length,
             locker,
         },
-    })
+    }))
 }
 
-#[tactic(auto, unfolding(crate::specs::Locks::locking))]
-pub(crate) fn put_lock(writer: &mut Writer, owned: &OwnedLock) -> Result<(), Memory>
-    requires { IsLocking owned.now }
-    ensures { OnOk result (writer.new ≡ writer.old ++ locking owned.now) }
+#[tactic(auto, using(nm_xdr::proofs::PutLaws::front_there, nm_xdr::proofs::PutLaws::front_stands), unfolding(crate::specs::Locks::locking))]
+pub(crate) fn put_lock(writer: &mut Writer, clientid: u64, args: &LockArgs) -> Result<(), Memory>
+    requires { IsLockArgs args.now }
+    ensures { Puts writer.old (locking (record { clientid = clientid; args = args.now })) result writer.new }
 {
-    let args = &owned.args;
     put_lock_type(writer, args.kind)?;
     writer.put_bool(args.reclaim)?;
     writer.put_u64(args.offset)?;
     writer.put_u64(args.length)?;
-    put_locker(writer, owned.clientid, &args.locker)
+    put_locker(writer, clientid, &args.locker)?;
+    Ok(())
 }
 
 // Who locks (locker4).
 #[tactic(auto, unfolding(crate::specs::Locks::locker_at))]
-fn take_locker(alloc: Global, cursor: &mut Cursor<'_>) -> Result<OwnedLocker, ReadFault>
-    ensures { Takes locker_at cursor.old result cursor.new }
+fn take_locker(
+    alloc: Global,
+    cursor: &mut Cursor<'_>,
+    which: Clientids,
+) -> Result<OwnedLocker, ReadFault>
+    ensures { Takes (locker_at which) cursor.old result cursor.new }
 {
     if cursor.take_bool()? {
-        take_new_locker(alloc, cursor)
+        take_new_locker(alloc, cursor, which)
     } else {
-        take_known_locker(cursor)
+        take_known_locker(cursor, which)
     }
 }
 
 #[tactic(auto, unfolding(crate::specs::Locks::locker_arm_at, crate::specs::Locks::new_owner_at))]
-fn take_new_locker(alloc: Global, cursor: &mut Cursor<'_>) -> Result<OwnedLocker, ReadFault>
-    ensures { Takes (locker_arm_at true) cursor.old result cursor.new }
+fn take_new_locker(
+    alloc: Global,
+    cursor: &mut Cursor<'_>,
+    which: Clientids,
+) -> Result<OwnedLocker, ReadFault>
+    ensures { Takes (locker_arm_at which true) cursor.old result cursor.new }
 {
     let open_seqid = cursor.take_u32()?;
-    let stateid = take_stateid(cursor)?;
+    let stateid = take_ref(cursor)?;
     let lock_seqid = cursor.take_u32()?;
-    let clientid = cursor.take_u64()?;
-    let owner = take_text(alloc, cursor)?;
+    let (clientid, owner) = take_owner(alloc, cursor, which)?;
     Ok(OwnedLocker {
         clientid,
         locker: Locker::New {
@@ -77,10 +92,10 @@ fn take_new_locker(alloc: Global, cursor: &mut Cursor<'_>) -> Result<OwnedLocker
 }
 
 #[tactic(auto, unfolding(crate::specs::Locks::locker_arm_at, crate::specs::Locks::known_owner_at))]
-fn take_known_locker(cursor: &mut Cursor<'_>) -> Result<OwnedLocker, ReadFault>
-    ensures { Takes (locker_arm_at false) cursor.old result cursor.new }
+fn take_known_locker(cursor: &mut Cursor<'_>, which: Clientids) -> Result<OwnedLocker, ReadFault>
+    ensures { Takes (locker_arm_at which false) cursor.old result cursor.new }
 {
-    let stateid = take_stateid(cursor)?;
+    let stateid = take_ref(cursor)?;
     let lock_seqid = cursor.take_u32()?;
     Ok(OwnedLocker {
         clientid: 0,
@@ -91,10 +106,10 @@ fn take_known_locker(cursor: &mut Cursor<'_>) -> Result<OwnedLocker, ReadFault>
     })
 }
 
-#[tactic(auto, unfolding(crate::specs::Locks::locker))]
+#[tactic(auto, using(nm_xdr::proofs::PutLaws::front_there, nm_xdr::proofs::PutLaws::front_stands), unfolding(crate::specs::Locks::locker))]
 fn put_locker(writer: &mut Writer, clientid: u64, given: &Locker) -> Result<(), Memory>
-    requires { IsLocker clientid given.now }
-    ensures { OnOk result (writer.new ≡ writer.old ++ locker (record { clientid = clientid; locker = given.now })) }
+    requires { IsLocker given.now }
+    ensures { Puts writer.old (locker (record { clientid = clientid; locker = given.now })) result writer.new }
 {
     match given {
         Locker::New {
@@ -105,17 +120,17 @@ fn put_locker(writer: &mut Writer, clientid: u64, given: &Locker) -> Result<(), 
         } => {
             writer.put_bool(true)?;
             writer.put_u32(*open_seqid)?;
-            put_stateid(writer, stateid)?;
+            put_ref(writer, stateid)?;
             writer.put_u32(*lock_seqid)?;
-            writer.put_u64(clientid)?;
-            writer.put_opaque(owner.items())
+            put_owner(writer, clientid, owner.items())?;
+            Ok(())
         }
         Locker::Known {
             stateid,
             lock_seqid,
         } => {
             writer.put_bool(false)?;
-            put_stateid(writer, stateid)?;
+            put_ref(writer, stateid)?;
             writer.put_u32(*lock_seqid)
         }
     }
@@ -125,15 +140,15 @@ fn put_locker(writer: &mut Writer, clientid: u64, given: &Locker) -> Result<(), 
 pub(crate) fn take_lock_test(
     alloc: Global,
     cursor: &mut Cursor<'_>,
-) -> Result<OwnedLockTest, ReadFault>
-    ensures { Takes lock_test_at cursor.old result cursor.new }
+    which: Clientids,
+) -> Result<Op, ReadFault>
+    ensures { Takes (field (lock_test_at which) (λ a. made (op.LockT a))) cursor.old result cursor.new }
 {
     let kind = take_lock_type(cursor)?;
     let offset = cursor.take_u64()?;
     let length = cursor.take_u64()?;
-    let clientid = cursor.take_u64()?;
-    let owner = take_text(alloc, cursor)?;
-    Ok(OwnedLockTest {
+    let (clientid, owner) = take_owner(alloc, cursor, which)?;
+    Ok(Op::LockT(OwnedLockTest {
         clientid,
         args: LockTestArgs {
             kind,
@@ -141,47 +156,50 @@ pub(crate) fn take_lock_test(
             length,
             owner,
         },
-    })
+    }))
 }
 
-#[tactic(auto, unfolding(crate::specs::Locks::lock_test))]
-pub(crate) fn put_lock_test(writer: &mut Writer, owned: &OwnedLockTest) -> Result<(), Memory>
-    requires { IsLockTest owned.now }
-    ensures { OnOk result (writer.new ≡ writer.old ++ lock_test owned.now) }
+#[tactic(auto, using(nm_xdr::proofs::PutLaws::front_there, nm_xdr::proofs::PutLaws::front_stands), unfolding(crate::specs::Locks::lock_test))]
+pub(crate) fn put_lock_test(
+    writer: &mut Writer,
+    clientid: u64,
+    args: &LockTestArgs,
+) -> Result<(), Memory>
+    requires { IsLockTestArgs args.now }
+    ensures { Puts writer.old (lock_test (record { clientid = clientid; args = args.now })) result writer.new }
 {
-    let args = &owned.args;
     put_lock_type(writer, args.kind)?;
     writer.put_u64(args.offset)?;
     writer.put_u64(args.length)?;
-    writer.put_u64(owned.clientid)?;
-    writer.put_opaque(args.owner.items())
+    put_owner(writer, clientid, args.owner.items())?;
+    Ok(())
 }
 
 #[tactic(auto, unfolding(crate::specs::Locks::unlock_at))]
-pub(crate) fn take_unlock(cursor: &mut Cursor<'_>) -> Result<UnlockArgs, ReadFault>
-    ensures { Takes unlock_at cursor.old result cursor.new }
+pub(crate) fn take_unlock(cursor: &mut Cursor<'_>) -> Result<Op, ReadFault>
+    ensures { Takes (field unlock_at (λ a. made (op.LockU a))) cursor.old result cursor.new }
 {
     let kind = take_lock_type(cursor)?;
     let seqid = cursor.take_u32()?;
-    let stateid = take_stateid(cursor)?;
+    let stateid = take_ref(cursor)?;
     let offset = cursor.take_u64()?;
     let length = cursor.take_u64()?;
-    Ok(UnlockArgs {
+    Ok(Op::LockU(UnlockArgs {
         kind,
         seqid,
         stateid,
         offset,
         length,
-    })
+    }))
 }
 
-#[tactic(auto, unfolding(crate::specs::Locks::unlock))]
+#[tactic(auto, using(nm_xdr::proofs::PutLaws::front_there, nm_xdr::proofs::PutLaws::front_stands), unfolding(crate::specs::Locks::unlock))]
 pub(crate) fn put_unlock(writer: &mut Writer, args: &UnlockArgs) -> Result<(), Memory>
-    ensures { OnOk result (writer.new ≡ writer.old ++ unlock args.now) }
+    ensures { Puts writer.old (unlock args.now) result writer.new }
 {
     put_lock_type(writer, args.kind)?;
     writer.put_u32(args.seqid)?;
-    put_stateid(writer, &args.stateid)?;
+    put_ref(writer, &args.stateid)?;
     writer.put_u64(args.offset)?;
     writer.put_u64(args.length)
 }
@@ -190,22 +208,25 @@ pub(crate) fn put_unlock(writer: &mut Writer, args: &UnlockArgs) -> Result<(), M
 pub(crate) fn take_release(
     alloc: Global,
     cursor: &mut Cursor<'_>,
-) -> Result<OwnedRelease, ReadFault>
-    ensures { Takes release_at cursor.old result cursor.new }
+    which: Clientids,
+) -> Result<Op, ReadFault>
+    ensures { Takes (field (release_at which) (λ a. made (op.ReleaseLockOwner a))) cursor.old result cursor.new }
 {
-    let clientid = cursor.take_u64()?;
-    let owner = take_text(alloc, cursor)?;
-    Ok(OwnedRelease {
+    let (clientid, owner) = take_owner(alloc, cursor, which)?;
+    Ok(Op::ReleaseLockOwner(OwnedRelease {
         clientid,
         args: ReleaseLockOwnerArgs { owner },
-    })
+    }))
 }
 
 #[tactic(auto, unfolding(crate::specs::Locks::release))]
-pub(crate) fn put_release(writer: &mut Writer, owned: &OwnedRelease) -> Result<(), Memory>
-    requires { IsRelease owned.now }
-    ensures { OnOk result (writer.new ≡ writer.old ++ release owned.now) }
+pub(crate) fn put_release(
+    writer: &mut Writer,
+    clientid: u64,
+    args: &ReleaseLockOwnerArgs,
+) -> Result<(), Memory>
+    requires { IsText args.now.owner }
+    ensures { Puts writer.old (release (record { clientid = clientid; args = args.now })) result writer.new }
 {
-    writer.put_u64(owned.clientid)?;
-    writer.put_opaque(owned.args.owner.items())
+    put_owner(writer, clientid, args.owner.items())
 }

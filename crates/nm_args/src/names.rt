@@ -1,34 +1,36 @@
 //! The arguments of operations on names in directories: CREATE, LOOKUP, READDIR, REMOVE and RENAME.
-ghost use Rattle.std.specs.Prelude.{◌≡◌, ◌++◌, OnOk};
-ghost use Rattle.nm_attrs.specs.Takes.{Takes};
+ghost use Rattle.nm_xdr.specs.Fields.{field, made};
+ghost use Rattle.nm_xdr.specs.Places.{Puts};
+ghost use Rattle.nm_items.specs.Takes.{Takes};
+ghost use Rattle.nm_args.specs.declared.op.Op.TheVariants as op;
 ghost use Rattle.nm_args.specs.Parts.{IsName};
 ghost use Rattle.nm_args.specs.Names.{device, device_at, create_type, create_type_at, IsCreateType, create, create_at, IsCreate, lookup, lookup_at, remove, remove_at, read_dir, read_dir_at, IsReadDir, rename, rename_at, IsRename};
 
-use crate::RenameArgs;
-use crate::parts::{put_fattr, take_fattr, take_name, take_words};
-use nm_attrs::{ReadFault, put_bitmap};
+use crate::parts::take_name;
+use crate::{Op, RenameArgs};
+use nm_items::{ReadFault, put_fattr, take_fattr, take_words};
 use nm_types::{CreateArgs, CreateType, Device, LookupArgs, ReadDirArgs, RemoveArgs};
 use nm_xdr::{Cursor, Memory, Writer, XdrFault};
 use std::alloc::Global;
 
 #[tactic(auto, unfolding(crate::specs::Names::create_at))]
-pub(crate) fn take_create(alloc: Global, cursor: &mut Cursor<'_>) -> Result<CreateArgs, ReadFault>
-    ensures { Takes create_at cursor.old result cursor.new }
+pub(crate) fn take_create(alloc: Global, cursor: &mut Cursor<'_>) -> Result<Op, ReadFault>
+    ensures { Takes (field create_at (λ a. made (op.Create a))) cursor.old result cursor.new }
 {
     let kind = take_create_type(alloc, cursor)?;
     let name = take_name(alloc, cursor)?;
     let attributes = take_fattr(alloc, cursor)?;
-    Ok(CreateArgs {
+    Ok(Op::Create(CreateArgs {
         kind,
         name,
         attributes,
-    })
+    }))
 }
 
-#[tactic(auto, unfolding(crate::specs::Names::create))]
+#[tactic(auto, using(nm_xdr::proofs::PutLaws::front_there, nm_xdr::proofs::PutLaws::front_stands), unfolding(crate::specs::Names::create))]
 pub(crate) fn put_create(writer: &mut Writer, args: &CreateArgs) -> Result<(), Memory>
     requires { IsCreate args.now }
-    ensures { OnOk result (writer.new ≡ writer.old ++ create args.now) }
+    ensures { Puts writer.old (create args.now) result writer.new }
 {
     put_create_type(writer, &args.kind)?;
     writer.put_opaque(args.name.items())?;
@@ -56,10 +58,10 @@ fn take_create_type(alloc: Global, cursor: &mut Cursor<'_>) -> Result<CreateType
     }
 }
 
-#[tactic(auto, unfolding(crate::specs::Names::create_type, crate::specs::Names::kind_number))]
+#[tactic(auto, using(nm_xdr::proofs::PutLaws::front_there, nm_xdr::proofs::PutLaws::front_stands), unfolding(crate::specs::Names::create_type, crate::specs::Names::kind_number))]
 fn put_create_type(writer: &mut Writer, kind: &CreateType) -> Result<(), Memory>
     requires { IsCreateType kind.now }
-    ensures { OnOk result (writer.new ≡ writer.old ++ create_type kind.now) }
+    ensures { Puts writer.old (create_type kind.now) result writer.new }
 {
     match kind {
         CreateType::File => writer.put_u32(1),
@@ -92,92 +94,89 @@ fn take_device(cursor: &mut Cursor<'_>) -> Result<Device, ReadFault>
     Ok(Device { major, minor })
 }
 
-#[tactic(auto, unfolding(crate::specs::Names::device))]
+#[tactic(auto, using(nm_xdr::proofs::PutLaws::front_there, nm_xdr::proofs::PutLaws::front_stands), unfolding(crate::specs::Names::device))]
 fn put_device(writer: &mut Writer, numbers: &Device) -> Result<(), Memory>
-    ensures { OnOk result (writer.new ≡ writer.old ++ device numbers.now) }
+    ensures { Puts writer.old (device numbers.now) result writer.new }
 {
     writer.put_u32(numbers.major)?;
     writer.put_u32(numbers.minor)
 }
 
 #[tactic(auto, unfolding(crate::specs::Names::lookup_at))]
-pub(crate) fn take_lookup(alloc: Global, cursor: &mut Cursor<'_>) -> Result<LookupArgs, ReadFault>
-    ensures { Takes lookup_at cursor.old result cursor.new }
+pub(crate) fn take_lookup(alloc: Global, cursor: &mut Cursor<'_>) -> Result<Op, ReadFault>
+    ensures { Takes (field lookup_at (λ a. made (op.Lookup a))) cursor.old result cursor.new }
 {
     let name = take_name(alloc, cursor)?;
-    Ok(LookupArgs { name })
+    Ok(Op::Lookup(LookupArgs { name }))
 }
 
-#[tactic(auto, unfolding(crate::specs::Names::lookup))]
+#[tactic(auto, using(nm_xdr::proofs::PutLaws::front_there, nm_xdr::proofs::PutLaws::front_stands), unfolding(crate::specs::Names::lookup))]
 pub(crate) fn put_lookup(writer: &mut Writer, args: &LookupArgs) -> Result<(), Memory>
     requires { IsName args.now.name }
-    ensures { OnOk result (writer.new ≡ writer.old ++ lookup args.now) }
+    ensures { Puts writer.old (lookup args.now) result writer.new }
 {
     writer.put_opaque(args.name.items())
 }
 
 #[tactic(auto, unfolding(crate::specs::Names::remove_at))]
-pub(crate) fn take_remove(alloc: Global, cursor: &mut Cursor<'_>) -> Result<RemoveArgs, ReadFault>
-    ensures { Takes remove_at cursor.old result cursor.new }
+pub(crate) fn take_remove(alloc: Global, cursor: &mut Cursor<'_>) -> Result<Op, ReadFault>
+    ensures { Takes (field remove_at (λ a. made (op.Remove a))) cursor.old result cursor.new }
 {
     let name = take_name(alloc, cursor)?;
-    Ok(RemoveArgs { name })
+    Ok(Op::Remove(RemoveArgs { name }))
 }
 
-#[tactic(auto, unfolding(crate::specs::Names::remove))]
+#[tactic(auto, using(nm_xdr::proofs::PutLaws::front_there, nm_xdr::proofs::PutLaws::front_stands), unfolding(crate::specs::Names::remove))]
 pub(crate) fn put_remove(writer: &mut Writer, args: &RemoveArgs) -> Result<(), Memory>
     requires { IsName args.now.name }
-    ensures { OnOk result (writer.new ≡ writer.old ++ remove args.now) }
+    ensures { Puts writer.old (remove args.now) result writer.new }
 {
     writer.put_opaque(args.name.items())
 }
 
 #[tactic(auto, unfolding(crate::specs::Names::read_dir_at))]
-pub(crate) fn take_read_dir(
-    alloc: Global,
-    cursor: &mut Cursor<'_>,
-) -> Result<ReadDirArgs, ReadFault>
-    ensures { Takes read_dir_at cursor.old result cursor.new }
+pub(crate) fn take_read_dir(alloc: Global, cursor: &mut Cursor<'_>) -> Result<Op, ReadFault>
+    ensures { Takes (field read_dir_at (λ a. made (op.ReadDir a))) cursor.old result cursor.new }
 {
     let cookie = cursor.take_u64()?;
     let verifier = cursor.take_u64()?;
     let dircount = cursor.take_u32()?;
     let maxcount = cursor.take_u32()?;
-    let words = take_words(alloc, cursor)?;
-    Ok(ReadDirArgs {
+    let words = take_words(alloc, cursor, 8)?;
+    Ok(Op::ReadDir(ReadDirArgs {
         cookie,
         verifier,
         dircount,
         maxcount,
         words,
-    })
+    }))
 }
 
-#[tactic(auto, unfolding(crate::specs::Names::read_dir))]
+#[tactic(auto, using(nm_xdr::proofs::PutLaws::front_there, nm_xdr::proofs::PutLaws::front_stands), unfolding(crate::specs::Names::read_dir))]
 pub(crate) fn put_read_dir(writer: &mut Writer, args: &ReadDirArgs) -> Result<(), Memory>
     requires { IsReadDir args.now }
-    ensures { OnOk result (writer.new ≡ writer.old ++ read_dir args.now) }
+    ensures { Puts writer.old (read_dir args.now) result writer.new }
 {
     writer.put_u64(args.cookie)?;
     writer.put_u64(args.verifier)?;
     writer.put_u32(args.dircount)?;
     writer.put_u32(args.maxcount)?;
-    put_bitmap(writer, args.words.items())
+    writer.put_words(args.words.items())
 }
 
 #[tactic(auto, unfolding(crate::specs::Names::rename_at))]
-pub(crate) fn take_rename(alloc: Global, cursor: &mut Cursor<'_>) -> Result<RenameArgs, ReadFault>
-    ensures { Takes rename_at cursor.old result cursor.new }
+pub(crate) fn take_rename(alloc: Global, cursor: &mut Cursor<'_>) -> Result<Op, ReadFault>
+    ensures { Takes (field rename_at (λ a. made (op.Rename a))) cursor.old result cursor.new }
 {
     let from = take_name(alloc, cursor)?;
     let to = take_name(alloc, cursor)?;
-    Ok(RenameArgs { from, to })
+    Ok(Op::Rename(RenameArgs { from, to }))
 }
 
-#[tactic(auto, unfolding(crate::specs::Names::rename))]
+#[tactic(auto, using(nm_xdr::proofs::PutLaws::front_there, nm_xdr::proofs::PutLaws::front_stands), unfolding(crate::specs::Names::rename))]
 pub(crate) fn put_rename(writer: &mut Writer, args: &RenameArgs) -> Result<(), Memory>
     requires { IsRename args.now }
-    ensures { OnOk result (writer.new ≡ writer.old ++ rename args.now) }
+    ensures { Puts writer.old (rename args.now) result writer.new }
 {
     writer.put_opaque(args.from.items())?;
     writer.put_opaque(args.to.items())

@@ -1,10 +1,11 @@
 //! Operations with their arguments, one variant for each (RFC 7530, 16; RFC 7531, nfs_argop4).
 ghost use Rattle.std.specs.Prelude.{◌≡◌};
 ghost use Rattle.nm_args.specs.Operations.{number_of, code_of_number, code_of};
+ghost use Rattle.nm_args.specs.Deeds.{has_deed, deed_of};
 
 use nm_types::{
-    AccessArgs, Bytes, CloseArgs, CommitArgs, CreateArgs, DelegReturnArgs, Fattr, GetAttrArgs,
-    Items, LockArgs, LockTestArgs, Locker, LookupArgs, OpenArgs, OpenConfirmArgs,
+    AccessArgs, Bytes, CloseArgs, CommitArgs, CreateArgs, Deed, DelegReturnArgs, Fattr,
+    GetAttrArgs, LockArgs, LockTestArgs, Locker, LookupArgs, OpenArgs, OpenConfirmArgs,
     OpenDowngradeArgs, ReadArgs, ReadDirArgs, ReleaseLockOwnerArgs, RemoveArgs, SetAttrArgs,
     UnlockArgs, WriteArgs,
 };
@@ -199,11 +200,8 @@ impl Drop for Op {
     }
 }
 
-/// Operations, in order.
-pub type Ops = Items<Op>;
-
 /// Which operation it is (RFC 7531, nfs_opnum4).
-#[derive(Clone, Copy, Debug)]
+#[derive(Clone, Copy)]
 pub enum OpCode {
     Access,
     Close,
@@ -339,7 +337,67 @@ impl OpCode {
     }
 }
 
+impl OpCode {
+    /// Whether it reaches a file system, as a call that an owner can keep does.
+    #[tactic(auto, unfolding(crate::specs::Deeds::has_deed))]
+    pub(crate) fn has_deed(self) -> bool
+        ensures { result ≡ has_deed self }
+    {
+        match self {
+            OpCode::Access
+            | OpCode::Close
+            | OpCode::Commit
+            | OpCode::Create
+            | OpCode::GetAttr
+            | OpCode::Lock
+            | OpCode::LockT
+            | OpCode::LockU
+            | OpCode::Lookup
+            | OpCode::LookupP
+            | OpCode::Open
+            | OpCode::OpenConfirm
+            | OpCode::OpenDowngrade
+            | OpCode::Read
+            | OpCode::ReadDir
+            | OpCode::Remove
+            | OpCode::SetAttr
+            | OpCode::Write
+            | OpCode::ReleaseLockOwner => true,
+            _ => false,
+        }
+    }
+}
+
 impl Op {
+    /// What reaches a file system of it, without the clientid. `None` exactly for an operation that reaches none.
+    #[tactic(auto, unfolding(crate::specs::Deeds::deed_of))]
+    pub(crate) fn into_deed(self) -> Option<Deed>
+        ensures { result ≡ deed_of self }
+    {
+        match self {
+            Op::Access(args) => Some(Deed::Access(args)),
+            Op::Close(args) => Some(Deed::Close(args)),
+            Op::Commit(args) => Some(Deed::Commit(args)),
+            Op::Create(args) => Some(Deed::Create(args)),
+            Op::GetAttr(args) => Some(Deed::GetAttr(args)),
+            Op::Lock(owned) => Some(Deed::Lock(owned.args)),
+            Op::LockT(owned) => Some(Deed::LockTest(owned.args)),
+            Op::LockU(args) => Some(Deed::Unlock(args)),
+            Op::Lookup(args) => Some(Deed::Lookup(args)),
+            Op::LookupP => Some(Deed::LookupP),
+            Op::Open(owned) => Some(Deed::Open(owned.args)),
+            Op::OpenConfirm(args) => Some(Deed::OpenConfirm(args)),
+            Op::OpenDowngrade(args) => Some(Deed::OpenDowngrade(args)),
+            Op::Read(args) => Some(Deed::Read(args)),
+            Op::ReadDir(args) => Some(Deed::ReadDir(args)),
+            Op::Remove(args) => Some(Deed::Remove(args)),
+            Op::SetAttr(args) => Some(Deed::SetAttr(args)),
+            Op::Write(args) => Some(Deed::Write(args)),
+            Op::ReleaseLockOwner(owned) => Some(Deed::ReleaseLockOwner(owned.args)),
+            _ => None,
+        }
+    }
+
     /// Which operation it is.
     pub fn code(&self) -> OpCode
         ensures { result ≡ code_of self.now }

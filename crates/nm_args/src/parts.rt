@@ -1,25 +1,22 @@
 //! Items that several operations have (RFC 7531).
-ghost use Rattle.std.specs.Prelude.{◌≡◌, ◌<◌, ◌≤◌, ◌^◌, ◌++◌, length, OnOk};
-ghost use Rattle.nm_xdr.specs.Items.{word, opaque, opaque_at};
-ghost use Rattle.nm_types.specs.Wire.{stateid_bytes};
-ghost use Rattle.nm_attrs.specs.Bitmaps.{bitmap, bitmap_at};
-ghost use Rattle.nm_attrs.specs.Takes.{Takes};
-ghost use Rattle.nm_args.specs.Parts.{name_at, text_at, stateid_at, fattr, fattr_at, AreAttributes, lock_number, lock_of, lock_type_at, stable_number, stable_of, stable_at};
+ghost use Rattle.std.specs.Prelude.{◌≡◌};
+ghost use Rattle.nm_xdr.specs.Items.{word};
+ghost use Rattle.nm_xdr.specs.Places.{Gives, Puts};
+ghost use Rattle.nm_items.specs.Takes.{Takes};
+ghost use Rattle.nm_args.specs.Parts.{name_at, text_at, IsText, clientid_at, owner_bytes, owner_at, lock_number, lock_of, lock_type_at, stable_number, stable_of, stable_at};
 
-use nm_attrs::{ReadFault, put_bitmap, take_bitmap};
-use nm_types::{Bytes, Fattr, LockType, Stable, StateRef, Words};
+use nm_items::{ReadFault, take_kept};
+use nm_types::{Bytes, LockType, Stable};
 use nm_xdr::{Cursor, Memory, Writer, XdrFault};
 use std::alloc::Global;
 
-/// Takes bytes of at most `max`, and keeps a copy of them.
-pub(crate) fn take_bytes(
-    alloc: Global,
-    cursor: &mut Cursor<'_>,
-    max: u32,
-) -> Result<Bytes, ReadFault>
-    ensures { Takes (opaque_at max) cursor.old result cursor.new }
-{
-    Ok(Bytes::from_slice(alloc, cursor.take_opaque(max)?)?)
+/// Which clientids are taken as an owner's.
+#[derive(Clone, Copy)]
+pub(crate) enum Clientids {
+    /// Any one, as in a request.
+    Any,
+    /// 0 alone, which stands for the caller's in a kept call.
+    Zero,
 }
 
 /// Takes a name of at most 1,048,576 bytes (component4).
@@ -27,7 +24,7 @@ pub(crate) fn take_bytes(
 pub(crate) fn take_name(alloc: Global, cursor: &mut Cursor<'_>) -> Result<Bytes, ReadFault>
     ensures { Takes name_at cursor.old result cursor.new }
 {
-    take_bytes(alloc, cursor, 1_048_576)
+    take_kept(alloc, cursor, 1_048_576)
 }
 
 /// Takes a text of at most 1,024 bytes.
@@ -35,54 +32,49 @@ pub(crate) fn take_name(alloc: Global, cursor: &mut Cursor<'_>) -> Result<Bytes,
 pub(crate) fn take_text(alloc: Global, cursor: &mut Cursor<'_>) -> Result<Bytes, ReadFault>
     ensures { Takes text_at cursor.old result cursor.new }
 {
-    take_bytes(alloc, cursor, 1024)
+    take_kept(alloc, cursor, 1024)
 }
 
-/// Takes a stateid (stateid4).
-#[tactic(auto, using(crate::proofs::PartLaws::fixed_has_length), unfolding(crate::specs::Parts::stateid_at))]
-pub(crate) fn take_stateid(cursor: &mut Cursor<'_>) -> Result<StateRef, ReadFault>
-    ensures { Takes stateid_at cursor.old result cursor.new }
+// Takes a clientid. Another one than those is told at its first byte.
+fn take_clientid(cursor: &mut Cursor<'_>, which: Clientids) -> Result<u64, XdrFault>
+    ensures { Gives (λ n. n) (clientid_at which) cursor.old result cursor.new }
 {
-    let seqid = cursor.take_u32()?;
-    let bytes = cursor.take_fixed(12)?;
-    let mut other = [0; 12];
-    other.copy_from_slice(bytes);
-    Ok(StateRef::read(seqid, &other))
+    let at = cursor.place();
+    let clientid = cursor.take_u64()?;
+    match which {
+        Clientids::Any => Ok(clientid),
+        Clientids::Zero => {
+            if clientid == 0 {
+                Ok(clientid)
+            } else {
+                Err(XdrFault::Short { at })
+            }
+        }
+    }
 }
 
-/// Puts a stateid.
-#[tactic(auto, using(crate::proofs::PartLaws::stateid_is_whole))]
-pub(crate) fn put_stateid(writer: &mut Writer, stateid: &StateRef) -> Result<(), Memory>
-    ensures { OnOk result (writer.new ≡ writer.old ++ stateid_bytes stateid.now) }
+/// Takes the owner of opens or of locks: a clientid and a text (open_owner4, lock_owner4).
+#[tactic(auto, unfolding(crate::specs::Parts::owner_at))]
+pub(crate) fn take_owner(
+    alloc: Global,
+    cursor: &mut Cursor<'_>,
+    which: Clientids,
+) -> Result<(u64, Bytes), ReadFault>
+    ensures { Takes (owner_at which) cursor.old result cursor.new }
 {
-    writer.put_fixed(&stateid.wire())
+    let clientid = take_clientid(cursor, which)?;
+    let text = take_text(alloc, cursor)?;
+    Ok((clientid, text))
 }
 
-/// Takes the words of a bitmap (bitmap4).
-pub(crate) fn take_words(alloc: Global, cursor: &mut Cursor<'_>) -> Result<Words, ReadFault>
-    ensures { Takes bitmap_at cursor.old result cursor.new }
+/// Puts the owner of opens or of locks.
+#[tactic(auto, using(nm_xdr::proofs::PutLaws::front_there, nm_xdr::proofs::PutLaws::front_stands), unfolding(crate::specs::Parts::owner_bytes))]
+pub(crate) fn put_owner(writer: &mut Writer, clientid: u64, text: &[u8]) -> Result<(), Memory>
+    requires { IsText text.now }
+    ensures { Puts writer.old (owner_bytes (clientid, text.now)) result writer.new }
 {
-    Ok(take_bitmap(alloc, cursor)?.into_words())
-}
-
-/// Takes attributes, as they come (fattr4).
-#[tactic(auto, unfolding(crate::specs::Parts::fattr_at))]
-pub(crate) fn take_fattr(alloc: Global, cursor: &mut Cursor<'_>) -> Result<Fattr, ReadFault>
-    ensures { Takes fattr_at cursor.old result cursor.new }
-{
-    let words = take_words(alloc, cursor)?;
-    let values = take_bytes(alloc, cursor, 65536)?;
-    Ok(Fattr { words, values })
-}
-
-/// Puts attributes.
-#[tactic(auto, unfolding(crate::specs::Parts::fattr))]
-pub(crate) fn put_fattr(writer: &mut Writer, attributes: &Fattr) -> Result<(), Memory>
-    requires { AreAttributes attributes.now }
-    ensures { OnOk result (writer.new ≡ writer.old ++ fattr attributes.now) }
-{
-    put_bitmap(writer, attributes.words.items())?;
-    writer.put_opaque(attributes.values.items())
+    writer.put_u64(clientid)?;
+    writer.put_opaque(text)
 }
 
 /// Takes the type of a lock, from 1 to 4 (nfs_lock_type4).
@@ -112,9 +104,9 @@ fn lock_type_of_number(number: u32) -> Option<LockType>
 }
 
 /// Puts the type of a lock.
-#[tactic(auto, unfolding(crate::specs::Parts::lock_number))]
+#[tactic(auto, using(nm_xdr::proofs::PutLaws::front_there, nm_xdr::proofs::PutLaws::front_stands), unfolding(crate::specs::Parts::lock_number))]
 pub(crate) fn put_lock_type(writer: &mut Writer, kind: LockType) -> Result<(), Memory>
-    ensures { OnOk result (writer.new ≡ writer.old ++ word (lock_number kind)) }
+    ensures { Puts writer.old (word (lock_number kind)) result writer.new }
 {
     writer.put_u32(match kind {
         LockType::Read => 1,
@@ -150,9 +142,9 @@ fn stable_of_number(number: u32) -> Option<Stable>
 }
 
 /// Puts how far a WRITE has to reach.
-#[tactic(auto, unfolding(crate::specs::Parts::stable_number))]
+#[tactic(auto, using(nm_xdr::proofs::PutLaws::front_there, nm_xdr::proofs::PutLaws::front_stands), unfolding(crate::specs::Parts::stable_number))]
 pub(crate) fn put_stable(writer: &mut Writer, stable: Stable) -> Result<(), Memory>
-    ensures { OnOk result (writer.new ≡ writer.old ++ word (stable_number stable)) }
+    ensures { Puts writer.old (word (stable_number stable)) result writer.new }
 {
     writer.put_u32(match stable {
         Stable::Unstable => 0,

@@ -1,54 +1,34 @@
 //! Reading of compounds.
-ghost use Rattle.std.specs.Prelude.{◌≡◌, ◌≤◌, [], length};
+ghost use Rattle.std.specs.Prelude.{◌≡◌, ◌*◌, ◌≤◌, [], length, IfOk};
 ghost use Rattle.nm_xdr.specs.Items.{word_at};
-ghost use Rattle.nm_xdr.specs.Places.{end_of, place_of};
-ghost use Rattle.nm_attrs.specs.Takes.{Takes};
-ghost use Rattle.nm_args.specs.Compounds.{tag_at, next_at, ops_at, judged, compound_of, Answers};
-ghost use Rattle.nm_args.specs.Steps.{OpsRead, TakesNext, unread, missing_at};
+ghost use Rattle.nm_xdr.specs.Places.{end_of};
+ghost use Rattle.nm_items.specs.Takes.{Takes};
+ghost use Rattle.nm_args.specs.declared.compound.ArgsFault.TheVariants.{GarbageAt};
+ghost use Rattle.nm_args.specs.Compounds.{next_at, ops_at, judged, compound_of, Answers};
+ghost use Rattle.nm_args.specs.Steps.{OpsRead, TakesNext, unread};
 
 use crate::operations::take_args;
-use crate::parts::take_text;
+use crate::parts::{Clientids, take_text};
 use crate::{ArgsFault, Compound, CompoundEnd, Op, OpCode, Ops};
-use nm_attrs::ReadFault;
-use nm_types::Bytes;
-use nm_xdr::{Cursor, XdrFault};
+use nm_items::ReadFault;
+use nm_types::{Bytes, Memory};
+use nm_xdr::Cursor;
 use std::alloc::Global;
 
 /// Reads the arguments of a COMPOUND (RFC 7530, 15.2), which are all of these bytes.
 ///
 /// A minor version other than 0 comes before too many operations. GarbageAt where the tag, the minor version, the count or an
 /// operation's number can't be read, or where bytes follow the last operation. Memory where there is none for what is kept;
-/// no memory is taken ahead for a count.
+/// of a count no more is believed than the bytes that are left can hold.
 #[tactic(auto, unfolding(crate::specs::Compounds::compound_of))]
 pub fn read_compound(alloc: Global, body: &[u8]) -> Result<Compound, ArgsFault>
     ensures { Answers result (length body.now) (compound_of body.now) }
 {
     let mut cursor = Cursor::new(body);
-    let tag = take_tag(alloc, &mut cursor)?;
+    let tag = take_text(alloc, &mut cursor)?;
     let minor = take_word(&mut cursor)?;
     let count = take_word(&mut cursor)?;
     read_judged(alloc, &mut cursor, tag, minor, count)
-}
-
-// Takes the tag. Whatever is wrong in it, the fault is at its length.
-#[tactic(auto, unfolding(crate::specs::Compounds::tag_at))]
-fn take_tag(alloc: Global, cursor: &mut Cursor<'_>) -> Result<Bytes, ReadFault>
-    ensures { Takes tag_at cursor.old result cursor.new }
-{
-    let at = cursor.place();
-    match take_text(alloc, cursor) {
-        Ok(tag) => Ok(tag),
-        Err(fault) => Err(missing_from(fault, at)),
-    }
-}
-
-fn missing_from(fault: ReadFault, at: usize) -> ReadFault
-    ensures { result ≡ missing_at fault at }
-{
-    match fault {
-        ReadFault::Xdr(_) => ReadFault::Xdr(XdrFault::Short { at }),
-        ReadFault::Memory => ReadFault::Memory,
-    }
 }
 
 fn take_word(cursor: &mut Cursor<'_>) -> Result<u32, ReadFault>
@@ -103,7 +83,7 @@ pub(crate) struct ReadOps {
 fn read_ops(alloc: Global, cursor: &mut Cursor<'_>, count: u32) -> Result<ReadOps, ArgsFault>
     ensures { OpsRead result (end_of cursor.old) (ops_at count [] cursor.old.rest) }
 {
-    let mut ops = Ops::new(alloc);
+    let mut ops = room_for(alloc, cursor, count)?;
     for _ in 0..count {
         match take_next(alloc, cursor)? {
             Next::One(op) => ops.push(op)?,
@@ -111,12 +91,36 @@ fn read_ops(alloc: Global, cursor: &mut Cursor<'_>, count: u32) -> Result<ReadOp
         }
     }
     if cursor.left() > 0 {
-        return Err(ArgsFault::GarbageAt { at: cursor.place() });
+        return Err(left_over(cursor));
     }
     Ok(ReadOps {
         ops,
         end: CompoundEnd::Clean,
     })
+}
+
+// That bytes are left behind the last operation, from here on.
+fn left_over(cursor: &Cursor<'_>) -> ArgsFault
+    ensures { result ≡ GarbageAt cursor.now.place }
+{
+    ArgsFault::GarbageAt { at: cursor.place() }
+}
+
+// No operations yet, and room for those that there can be.
+fn room_for(alloc: Global, cursor: &Cursor<'_>, count: u32) -> Result<Ops, Memory>
+    ensures { IfOk result (λ ops. ops ≡ []) }
+{
+    Ops::with_room(alloc, most_of(count, cursor.left()))
+}
+
+// How many of so many operations there can be in so many bytes: each has at least the 4 of its number.
+fn most_of(count: u32, left: usize) -> usize
+    ensures announced { result ≤ count }
+    ensures left { 4 * result ≤ left }
+{
+    let most = left / 4;
+    let count = count as usize;
+    if most < count { most } else { count }
 }
 
 /// What the next operation is.
@@ -135,7 +139,7 @@ fn take_next(alloc: Global, cursor: &mut Cursor<'_>) -> Result<Next, ReadFault>
     let Some(code) = OpCode::read(number) else {
         return Ok(Next::End(CompoundEnd::Illegal { number }));
     };
-    match take_args(alloc, cursor, code) {
+    match take_args(alloc, cursor, code, Clientids::Any) {
         Ok(op) => Ok(Next::One(op)),
         Err(fault) => without_args(fault, number),
     }
@@ -148,18 +152,5 @@ fn without_args(fault: ReadFault, number: u32) -> Result<Next, ReadFault>
     match fault {
         ReadFault::Xdr(_) => Ok(Next::End(CompoundEnd::BadXdr { op: number })),
         ReadFault::Memory => Err(ReadFault::Memory),
-    }
-}
-
-/// The place of a fault.
-pub(crate) fn place_of_fault(fault: XdrFault) -> usize
-    ensures { result ≡ place_of fault }
-{
-    match fault {
-        XdrFault::Short { at }
-        | XdrFault::Padding { at }
-        | XdrFault::Bool { at, .. }
-        | XdrFault::TooLong { at, .. }
-        | XdrFault::Enum { at, .. } => at,
     }
 }

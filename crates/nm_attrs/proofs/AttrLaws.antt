@@ -1,16 +1,15 @@
 -- A loop over the attributes that may be read: each step leaves fewer of them.
 use Rattle.std.proofs.Common.{◌≡◌, ℕ, ◌+◌, ◌≤◌, ◌<◌, Bool, true, false, cond, List, [], ◌∷◌, ◌++◌, length, get_or, drop, Result, Ok, Err, refl, sym, ap, subst, ◌∙◌, add-one, drop-cons}
 use Rattle.std.proofs.lemmas.List.{drop_all}
-use Rattle.std.specs.List.{filter}
 use Rattle.nm_xdr.specs.Fields.{Fault, ◌>>=◌}
 use Rattle.nm_xdr.specs.Places.{Spot, end_of, fault_of, place_of}
-use Rattle.nm_attrs.specs.declared.fault.ReadFault.{ReadFault}
-use Rattle.nm_attrs.specs.declared.fault.ReadFault.TheVariants.{Xdr, Memory}
+use Rattle.nm_items.specs.declared.fault.ReadFault.{ReadFault}
+use Rattle.nm_items.specs.declared.fault.ReadFault.TheVariants.{Xdr, Memory}
 use Rattle.nm_attrs.specs.declared.values.Attr.{Attr}
 use Rattle.nm_attrs.specs.declared.values.AttrLayout.{AttrLayout}
 use Rattle.nm_attrs.specs.Bitmaps.{has}
 use Rattle.nm_attrs.specs.Attributes.{attr_at, attrs_at, in_bitmap}
-use Rattle.nm_attrs.specs.Takes.{Fails}
+use Rattle.nm_items.specs.Takes.{Fails}
 
 -- what comes after a list of attributes
 then_read : (first others : List AttrLayout) (r : Result (Attr × List ℕ) Fault) (earlier : List Attr)

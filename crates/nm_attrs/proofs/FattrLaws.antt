@@ -1,16 +1,16 @@
 -- Attributes are read exactly where they are spelled, and what is written is read again.
-use Rattle.std.proofs.Common.{◌≡◌, ◌≢◌, ℕ, ◌+◌, ◌-◌, ◌*◌, ◌%◌, ◌^◌, ◌≤◌, ◌<◌, ◌/◌, Bool, true, false, eqb, List, [], ◌∷◌, ◌++◌, length, replicate, Option, Some, None, Result, Ok, Err, All, refl, sym, ap, subst, ◌∙◌, append_assoc, arith}
-use Rattle.std.proofs.lemmas.List.{append-nil, length-append, length-replicate}
+use Rattle.std.proofs.Common.{◌≡◌, ℕ, ◌%◌, ◌^◌, ◌<◌, ◌/◌, Bool, true, false, eqb, List, [], ◌∷◌, ◌++◌, Option, Some, None, Result, Ok, Err, All, refl, sym, ap, ◌∙◌, arith}
+use Rattle.std.proofs.lemmas.List.{append-nil}
 use Rattle.std.proofs.lemmas.List.Elements.{All-from_recursion}
-use Rattle.std.specs.List.{flat_map}
-use Rattle.nm_xdr.specs.Fields.{Fault, Reading, ◌>>=◌, field, made, all_of, IsBytes, IsItem}
-use Rattle.nm_xdr.specs.Items.{word, padding_of, fixed, opaque, counted, opaque_at}
-use Rattle.nm_xdr.proofs.FieldLaws.{field_part, made_part, record_item, fits_as, spelled_as, all_found, all_again}
-use Rattle.nm_xdr.proofs.ItemLaws.{opaque_item}
+use Rattle.nm_xdr.specs.Fields.{Fault, all_of, IsBytes}
+use Rattle.nm_xdr.specs.Items.{opaque}
+use Rattle.nm_xdr.proofs.FieldLaws.{all_found, all_again}
 use Rattle.nm_attrs.specs.declared.values.Attr.{Attr}
-use Rattle.nm_attrs.specs.Bitmaps.{bitmap, bitmap_at, trimmed, words_of_mask, IsBitmap}
-use Rattle.nm_attrs.specs.Attributes.{Flawed, number, bytes, of_values, of_supported, attrs_at, asked, unsupported, fattr_at, fattr_item_at, words_of, values_of, fattr_bytes, layouts_of, mask_of, AreAttrs, IsFattr}
-use Rattle.nm_attrs.proofs.ValueLaws.{HasValue, bitmap_item, attrs_item}
+use Rattle.nm_items.specs.Parts.{bitmap, IsBitmap, fattr, fattr_at as item_at}
+use Rattle.nm_attrs.specs.Bitmaps.{trimmed, words_of_mask}
+use Rattle.nm_attrs.specs.Attributes.{of_supported, attrs_at, asked, unsupported, fattr_at, words_of, values_of, as_fattr, fattr_bytes, layouts_of, mask_of, AreAttrs, IsFattr}
+use Rattle.nm_items.proofs.PartItems.{fattr_item}
+use Rattle.nm_attrs.proofs.ValueLaws.{HasValue, attrs_item}
 use Rattle.nm_attrs.proofs.LeastLaws.{all_supported, none_unsupported}
 use Rattle.nm_attrs.proofs.MaskLaws.{by_tests, mask_fits, asked_again, supported_again}
 
@@ -60,52 +60,12 @@ words_fit attrs are =
     let small : mask_of attrs < 2 ^ 64 = mask_fits attrs are in
     two_words (mask_of attrs % 2 ^ 32) (mask_of attrs / 2 ^ 32) (omega arith) (omega arith)
 
-pub fattr_item : IsItem fattr_item_at (λ p. bitmap p.0 ++ opaque p.1) (λ p. IsBitmap p.0 × (length p.1 ≤ 65536))
-unfolding fattr_item_at
-fattr_item =
-    fits_as (λ p. IsBitmap p.0 × (length p.1 ≤ 65536)) (λ p f. (f.0, (f.1, tt))) (λ p f. (f.0, f.1.0)) (
-    spelled_as (λ p. bitmap p.0 ++ opaque p.1) (λ p _. ap (λ (b : List ℕ). bitmap p.0 ++ b) (sym (append-nil (opaque p.1)))) (
-    record_item (
-    field_part (λ (p : List ℕ × List ℕ). p.0) _ (λ _. bitmap_item) (
-    field_part (λ (p : List ℕ × List ℕ). p.1) _ (λ _. opaque_item 65536 (omega arith)) (
-    made_part _ (λ _. refl) (λ _. refl))))))
+-- They are written as they stand in a message.
+pub fattr_spelled : (attrs : List Attr) → fattr (as_fattr attrs) ≡ fattr_bytes attrs
+unfolding fattr fattr_bytes
+fattr_spelled attrs = ap (λ (b : List ℕ). bitmap (words_of attrs) ++ b) (append-nil (opaque (values_of attrs)))
 
 -- Attributes that are written are taken again, whatever follows.
-pub fattr_taken : (attrs : List Attr) (rest : List ℕ) → AreAttrs attrs → fattr_item_at (fattr_bytes attrs ++ rest) ≡ Ok ((words_of attrs, values_of attrs), rest)
-unfolding fattr_bytes
-fattr_taken attrs rest are = fattr_item.again (words_of attrs, values_of attrs) rest (words_fit attrs are, are.short)
-
--- ---- Lengths
-
-word_length : (n : ℕ) → length (word n) ≡ 4
-unfolding word
-word_length n = refl
-
-words_length : (words : List ℕ) → length (flat_map word words) ≡ 4 * length words
-words_length [] = refl
-words_length (w ∷ words) = omega (arith, length-append (word w) (flat_map word words), word_length w, words_length words)
-
-fixed_length : (b : List ℕ) → length (fixed b) % 4 ≡ 0
-unfolding fixed padding_of
-fixed_length b =
-    let n : ℕ = length b in
-    let pad : ℕ = (4 - n % 4) % 4 in
-    let len : length (b ++ replicate pad 0) ≡ n + pad = omega (arith, length-append b (replicate pad 0), length-replicate {A = ℕ} pad 0) in
-    rw len (omega arith)
-
-opaque_length : (b : List ℕ) → length (opaque b) % 4 ≡ 0
-unfolding opaque
-opaque_length b = omega (arith, length-append (word (length b)) (fixed b), word_length (length b), fixed_length b)
-
-fattr_length : (attrs : List Attr) → length (fattr_bytes attrs) % 4 ≡ 0
-unfolding fattr_bytes
-fattr_length attrs =
-    let w : List ℕ = words_of attrs in
-    omega (arith, length-append (bitmap w) (opaque (values_of attrs)), length-append (word (length w)) (flat_map word w), word_length (length w), words_length w, opaque_length (values_of attrs))
-
--- A fattr needs no padding.
-pub fattr_whole : (attrs : List Attr) → fixed (fattr_bytes attrs) ≡ fattr_bytes attrs
-unfolding fixed padding_of
-fattr_whole attrs =
-    let none : (4 - length (fattr_bytes attrs) % 4) % 4 ≡ 0 = omega (arith, fattr_length attrs) in
-    rw none (append-nil (fattr_bytes attrs))
+pub fattr_taken : (attrs : List Attr) (rest : List ℕ) → AreAttrs attrs → item_at (fattr_bytes attrs ++ rest) ≡ Ok (as_fattr attrs, rest)
+fattr_taken attrs rest are =
+    ap (λ (b : List ℕ). item_at (b ++ rest)) (sym (fattr_spelled attrs)) ∙ fattr_item.again (as_fattr attrs) rest (record { words = words_fit attrs are; values = are.short })

@@ -1,5 +1,5 @@
 -- The least number that isn't supported, found in a range.
-use Rattle.std.proofs.Common.{◌≡◌, ◌≢◌, ℕ, zero, suc, ◌+◌, ◌-◌, ◌*◌, ◌/◌, ◌%◌, ◌≤◌, ◌<◌, Bool, true, false, not, cond, eqb, ◌&&◌, ◌⊎◌, List, [], ◌∷◌, length, get_or, Option, Some, None, Result, Ok, Err, refl, sym, ap, subst, ◌∙◌, arith, inl, inr}
+use Rattle.std.proofs.Common.{◌≡◌, ◌≢◌, ℕ, zero, suc, ◌+◌, ◌*◌, ◌/◌, ◌%◌, ◌≤◌, ◌<◌, Bool, true, false, not, cond, ◌&&◌, ◌⊎◌, List, [], ◌∷◌, length, get_or, Option, Some, None, Result, Ok, Err, refl, sym, ap, ◌∙◌, arith, inl, inr}
 use Rattle.std.specs.List.{find, range_with_len}
 use Rattle.std.specs.Int.{bit_at}
 use Rattle.std.proofs.lemmas.Bool.{cases_lt, cases_eq}
@@ -8,7 +8,7 @@ use Rattle.std.proofs.lemmas.Nat.Bits.{bit_at-zero}
 use Rattle.nm_xdr.specs.Fields.{Fault, all_of}
 use Rattle.nm_attrs.specs.declared.values.Attr.{Attr}
 use Rattle.nm_attrs.specs.Bitmaps.{has}
-use Rattle.nm_attrs.specs.Attributes.{is_supported, unsupported, Flawed, number, of_values, of_supported, attrs_at, asked, fattr_at, IsLeastUnsupported}
+use Rattle.nm_attrs.specs.Attributes.{is_supported, unsupported, number, of_supported, attrs_at, asked, fattr_at, IsLeastUnsupported}
 
 -- What is found in a range passes, and what is below it doesn't.
 range_found : (p : ℕ → Bool) (a n b : ℕ) → find p (range_with_len a n) ≡ Some b → (p b ≡ true) × ((i : ℕ) → a ≤ i → i < b → p i ≡ false)
@@ -26,7 +26,7 @@ range_found p a (suc n) b e = by_test (p a) refl e (range_found p (a + 1) n b)
         ((more h).0, λ i le lt. below i le lt (cases_eq i a))
 
 -- Where nothing is found in a range, nothing in it passes.
-range_none : (p : ℕ → Bool) (a n : ℕ) → find p (range_with_len a n) ≡ None → (i : ℕ) → a ≤ i → i < a + n → p i ≡ false
+pub range_none : (p : ℕ → Bool) (a n : ℕ) → find p (range_with_len a n) ≡ None → (i : ℕ) → a ≤ i → i < a + n → p i ≡ false
 range_none p a zero e i le lt = absurd (omega arith)
 range_none p a (suc n) e i le lt = by_test (p a) refl e (cases_eq i a) (λ h more. range_none p (a + 1) n h i more (omega arith))
   where
@@ -50,7 +50,7 @@ range_least p a (suc n) b le lt is below = by_place (cases_eq a b) (λ other. ra
         rw here (more other)
 
 -- a bitmap has nothing past its words
-past_words : (words : List ℕ) (n : ℕ) → 32 * length words ≤ n → has words n ≡ false
+pub past_words : (words : List ℕ) (n : ℕ) → 32 * length words ≤ n → has words n ≡ false
 unfolding has
 past_words words n le =
     let none : bit_at (get_or words (n / 32) 0) (n % 32) ≡ 0 = rw (get_or_past words (n / 32) 0 (omega arith)) (bit_at-zero (n % 32)) in

@@ -1,7 +1,7 @@
 pub mod AttrLaws
 pub mod FattrLaws
 pub mod LeastLaws
-pub mod MadeLaws
+pub mod LengthLaws
 pub mod MaskLaws
-pub mod RowLaws
+pub mod TableLaws
 pub mod ValueLaws

@@ -1,10 +1,9 @@
 -- The bitmap of some attributes has just their numbers.
-use Rattle.std.proofs.Common.{◌≡◌, ◌≢◌, ℕ, ◌+◌, ◌-◌, ◌*◌, ◌/◌, ◌%◌, ◌^◌, ◌≤◌, ◌<◌, Bool, true, false, not, cond, eqb, ltb, ◌&&◌, ◌||◌, ◌⊎◌, List, [], ◌∷◌, ◌++◌, length, map, get_or, Option, Some, None, All, refl, sym, ap, subst, ◌∙◌, arith, inl, inr}
-use Rattle.std.specs.List.{AllByRecursion, filter, list_any, find, range_with_len, fold}
+use Rattle.std.proofs.Common.{◌≡◌, ◌≢◌, ℕ, ◌+◌, ◌/◌, ◌%◌, ◌^◌, ◌≤◌, ◌<◌, Bool, true, false, cond, eqb, ◌&&◌, ◌||◌, ◌⊎◌, List, [], ◌∷◌, length, get_or, None, refl, sym, ap, subst, ◌∙◌, arith, inl, inr}
+use Rattle.std.specs.List.{AllByRecursion, filter, list_any, fold}
 use Rattle.std.specs.Int.{bit_at}
 use Rattle.std.specs.Int.RustNames.{bit_or}
 use Rattle.std.proofs.lemmas.Bool.{cases_lt, cases_eq, eqb-true, eq-eqb, ne_eqb}
-use Rattle.std.proofs.lemmas.Bool.Decides.{nat_tests}
 use Rattle.std.proofs.lemmas.List.{get_or_past}
 use Rattle.std.proofs.lemmas.List.Elements.{filter_agree}
 use Rattle.std.proofs.lemmas.Nat.{shr-shr, shr_split, or_lt, pow_below}
@@ -13,7 +12,7 @@ use Rattle.nm_attrs.proofs.LeastLaws.{none_unsupported}
 use Rattle.nm_attrs.specs.declared.values.Attr.{Attr}
 use Rattle.nm_attrs.specs.declared.values.AttrLayout.{AttrLayout}
 use Rattle.nm_attrs.specs.Bitmaps.{has, trimmed, words_of_mask}
-use Rattle.nm_attrs.specs.Attributes.{table, is_supported, in_bitmap, asked, unsupported, mask_of, words_of, layouts_of, kind_of, AreAttrs}
+use Rattle.nm_attrs.specs.Attributes.{table, is_supported, asked, unsupported, mask_of, words_of, layouts_of, AreAttrs}
 
 -- ---- A mask's words
 

@@ -1,10 +1,10 @@
 -- The reading and the spelling of bitmaps, paths and values belong together.
-use Rattle.std.proofs.Common.{◌≡◌, ℕ, ◌-◌, ◌^◌, ◌≤◌, ◌<◌, List, [], ◌∷◌, ◌++◌, length, map, Result, Ok, Err, All, refl, sym, ap, subst, ◌∙◌, append_assoc, arith}
+use Rattle.std.proofs.Common.{◌≡◌, ℕ, ◌-◌, ◌^◌, ◌≤◌, ◌<◌, List, [], ◌∷◌, ◌++◌, length, Result, Ok, All, refl, sym, ap, subst, ◌∙◌, append_assoc, arith}
 use Rattle.std.proofs.lemmas.List.{append-nil}
 use Rattle.std.proofs.lemmas.List.Elements.{All-from_recursion, recursion_from_All}
-use Rattle.std.specs.List.{AllByRecursion, flat_map}
-use Rattle.nm_xdr.specs.Fields.{Fault, Reading, ◌>>=◌, field, made, IsBytes, IsItem}
-use Rattle.nm_xdr.specs.Items.{word, hyper, flag, opaque, counted, word_at, hyper_at, opaque_at, counted_at}
+use Rattle.std.specs.List.{AllByRecursion}
+use Rattle.nm_xdr.specs.Fields.{Fault, Reading, ◌>>=◌, IsBytes, IsItem}
+use Rattle.nm_xdr.specs.Items.{hyper, counted, counted_at}
 use Rattle.nm_xdr.proofs.FieldLaws.{field_part, made_part, record_item, spelled_as, fits_as, each_fits, each_fits_after, bind_ok, same_value, IsBytes-behind}
 use Rattle.nm_xdr.proofs.ItemLaws.{word_item, hyper_item, flag_item, opaque_item, counted_item}
 use Rattle.nm_attrs.specs.declared.values.Location.{Location}
@@ -15,9 +15,9 @@ use Rattle.nm_attrs.specs.declared.values.AttrKind.{AttrKind}
 use Rattle.nm_attrs.specs.declared.values.AttrKind.TheVariants as kind
 use Rattle.nm_attrs.specs.declared.values.Attr.{Attr}
 use Rattle.nm_attrs.specs.declared.values.AttrLayout.{AttrLayout}
-use Rattle.nm_attrs.specs.Bitmaps.{bitmap, bitmap_at, IsBitmap}
 use Rattle.nm_attrs.specs.Attributes.{path, path_at, location, location_at, locations_at, fs_locations, fs_locations_at, IsPath, IsLocation, AreLocations, IsValue, kind_of, value_bytes, two_at, value_at, attr_at, attrs_at, values_of, layouts_of}
-use Rattle.nm_attrs.proofs.MadeLaws.{made_found, made_again}
+use Rattle.nm_items.proofs.PartItems.{bitmap_item}
+use Rattle.nm_xdr.proofs.MadeLaws.{made_found, made_again}
 
 -- ---- Lists whose rows don't need those before them
 
@@ -29,10 +29,6 @@ list_item {X} {row} {spell} {Fits} max small item =
     (λ xs f. (f.0, each_fits_after Fits [] xs (recursion_from_All Fits xs f.1)))
     (λ xs f. (f.0, All-from_recursion Fits xs (each_fits Fits [] xs f.1)))
     (counted_item max small (λ _. item))
-
-pub bitmap_item : IsItem bitmap_at bitmap IsBitmap
-unfolding bitmap_at
-bitmap_item = list_item 8 (omega arith) word_item
 
 pub path_item : IsItem path_at path IsPath
 unfolding path_at

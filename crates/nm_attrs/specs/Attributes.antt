@@ -2,10 +2,10 @@
 use Rattle.std.specs.Prelude.{◌≡◌, ℕ, ◌*◌, ◌-◌, ◌^◌, ◌<◌, ◌≤◌, Bool, true, false, ◌==◌, ◌&&◌, not, List, [], ◌∷◌, ◌++◌, length, find, All, map, Option, Some, None, Result, Ok, Err}
 use Rattle.std.specs.List.{filter, flat_map, list_any, range_with_len, fold}
 use Rattle.std.specs.Int.RustNames.{bit_or}
-use Rattle.nm_xdr.specs.declared.fault.XdrFault.{XdrFault}
-use Rattle.nm_xdr.specs.Fields.{Fault, Reading, ◌>>=◌, field, made, all_of}
+use Rattle.nm_xdr.specs.Fields.{Fault, Reading, field, made, all_of}
 use Rattle.nm_xdr.specs.Items.{word, hyper, flag, opaque, counted, structure, word_at, hyper_at, flag_at, opaque_at, counted_at}
-use Rattle.nm_xdr.specs.Places.{fault_of, place_of, Tells}
+use Rattle.nm_xdr.specs.Places.{fault_of, place_of}
+use Rattle.nm_types.specs.declared.args.Fattr.{Fattr}
 use Rattle.nm_attrs.specs.declared.values.Location.{Location}
 use Rattle.nm_attrs.specs.declared.values.FsLocations.{FsLocations}
 use Rattle.nm_attrs.specs.declared.values.AttrValue.{AttrValue}
@@ -16,7 +16,8 @@ use Rattle.nm_attrs.specs.declared.values.Attr.{Attr}
 use Rattle.nm_attrs.specs.declared.values.AttrLayout.{AttrLayout}
 use Rattle.nm_attrs.specs.declared.fault.AttrFault.{AttrFault}
 use Rattle.nm_attrs.specs.declared.fault.AttrFault.TheVariants as fault
-use Rattle.nm_attrs.specs.Bitmaps.{has, words_of_mask, bitmap, bitmap_at, IsBitmap}
+use Rattle.nm_items.specs.Parts.{bitmap, bitmap_at, IsBitmap}
+use Rattle.nm_attrs.specs.Bitmaps.{has, words_of_mask}
 
 -- ---- Paths and locations (RFC 7531, pathname4 and fs_locations4)
 
@@ -58,6 +59,10 @@ table =
 
 unfoldable pub is_supported : ℕ → Bool
 is_supported bit = list_any (λ l. l.bit == bit) table
+
+-- the words of the bitmap of these numbers
+abbrev pub supported_words : List ℕ
+supported_words = 18354175 ∷ 2 ∷ []
 
 -- ---- Values
 
@@ -128,10 +133,6 @@ of_supported None attrs = of_values attrs
 unfoldable pub fattr_at : List ℕ → List ℕ → Result (List Attr) Flawed
 fattr_at words values = of_supported (unsupported words) (all_of (attrs_at (asked words) []) values)
 
--- the bitmap and the values of attributes, as they stand in a message
-unfoldable pub fattr_item_at : Reading (List ℕ × List ℕ)
-fattr_item_at = field bitmap_at (λ words. field (opaque_at 65536) (λ values. made (words, values)))
-
 -- A call that reads attributes of so many bytes answers these, or what is wrong first. For want of memory it may answer nothing.
 abbrev pub IsTold : ℕ → AttrFault → Result (List Attr) Flawed → Type 0
 IsTold total (fault.Unsupported bit) given = given ≡ Err (number bit)
@@ -155,6 +156,10 @@ words_of attrs = words_of_mask (mask_of attrs)
 -- their values, one after the other
 abbrev pub values_of : List Attr → List ℕ
 values_of attrs = flat_map (λ a. value_bytes a.value) attrs
+
+-- as they stand in a message
+abbrev pub as_fattr : List Attr → Fattr
+as_fattr attrs = record { words = words_of attrs; values = values_of attrs }
 
 -- a bitmap, and the values as one item
 unfoldable pub fattr_bytes : List Attr → List ℕ

@@ -1,8 +1,6 @@
--- Bitmaps (RFC 7531, bitmap4): which numbers they have, and their layout.
-use Rattle.std.specs.Prelude.{ℕ, ◌<◌, ◌≤◌, length, All, ◌/◌, ◌%◌, ◌^◌, Bool, ◌==◌, ◌&&◌, List, [], ◌∷◌, slice_index, if◌then◌else◌}
+-- Bitmaps (RFC 7531, bitmap4): which numbers they have.
+use Rattle.std.specs.Prelude.{ℕ, ◌/◌, ◌%◌, ◌^◌, Bool, ◌==◌, ◌&&◌, List, [], ◌∷◌, slice_index, if◌then◌else◌}
 use Rattle.std.specs.Int.{bit_at}
-use Rattle.nm_xdr.specs.Fields.{Reading}
-use Rattle.nm_xdr.specs.Items.{word, counted, word_at, counted_at}
 
 -- Number n is in a bitmap where the bit n % 32 of its word n / 32 is 1; a word that isn't there is 0.
 unfoldable pub has : List ℕ → ℕ → Bool
@@ -15,17 +13,3 @@ trimmed low high = if (low == 0) && (high == 0) then [] else if high == 0 then l
 -- The words of the numbers from 0 to 63 whose bit is 1 in a mask.
 unfoldable pub words_of_mask : ℕ → List ℕ
 words_of_mask mask = trimmed (mask % 2 ^ 32) (mask / 2 ^ 32)
-
--- ---- The layout
-
--- a count and the words
-abbrev pub bitmap : List ℕ → List ℕ
-bitmap words = counted word words
-
--- at most 8 words
-unfoldable pub bitmap_at : Reading (List ℕ)
-bitmap_at = counted_at 8 (λ _. word_at)
-
--- at most 8 numbers of 4 bytes
-abbrev pub IsBitmap : List ℕ → Type 0
-IsBitmap words = (length words ≤ 8) × All (λ w. w < 2 ^ 32) words

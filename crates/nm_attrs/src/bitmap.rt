@@ -1,14 +1,14 @@
 //! Bitmaps: which attributes are asked for, or told.
 ghost use Rattle.std.specs.Prelude.{◌≡◌, ◌<◌, ◌≤◌, ◌^◌, ◌↔◌, [], ◌∷◌, ◌++◌, length, IfOk, IfSome, IsSome, OnOk, OnErr};
-ghost use Rattle.nm_attrs.specs.Bitmaps.{has, trimmed, words_of_mask, bitmap, bitmap_at};
-ghost use Rattle.nm_attrs.specs.Takes.{Takes, TakesOrFails};
-ghost use Rattle.nm_xdr.specs.Fields.{rows_at};
-ghost use Rattle.nm_xdr.specs.Items.{word, word_at};
-ghost use Rattle.std.specs.List.{flat_map};
+ghost use Rattle.nm_items.specs.Parts.{bitmap_at};
+ghost use Rattle.nm_items.specs.Takes.{Takes};
+ghost use Rattle.nm_attrs.specs.Bitmaps.{has, trimmed, words_of_mask};
+ghost use Rattle.nm_attrs.specs.Takes.{TakesOrFails};
 
-use crate::{AttrFault, ReadFault};
+use crate::AttrFault;
+use nm_items::{ReadFault, take_words};
 use nm_types::{Items, Memory};
-use nm_xdr::{Cursor, Writer};
+use nm_xdr::Cursor;
 use std::alloc::Global;
 use std::marker::Model;
 
@@ -123,45 +123,17 @@ impl Bitmap {
 /// Xdr with TooLong, at the count, where it is above 8, and with Short where an item isn't all there. Memory where there is
 /// none for the words.
 pub fn read_bitmap(alloc: Global, cursor: &mut Cursor<'_>) -> Result<Bitmap, AttrFault>
-    ensures { TakesOrFails bitmap_at cursor.old result cursor.new }
+    ensures item { TakesOrFails bitmap_at cursor.old result cursor.new }
+    ensures unmoved { OnErr result (cursor.new ≡ cursor.old) }
 {
     Ok(take_bitmap(alloc, cursor)?)
 }
 
 /// The same, for readers whose fault is a [`ReadFault`].
-#[tactic(auto, using(crate::proofs::RowLaws::count_within), unfolding(crate::specs::Bitmaps::bitmap_at, nm_xdr::specs::Items::counted_at))]
-pub fn take_bitmap(alloc: Global, cursor: &mut Cursor<'_>) -> Result<Bitmap, ReadFault>
-    ensures { Takes bitmap_at cursor.old result cursor.new }
+pub(crate) fn take_bitmap(alloc: Global, cursor: &mut Cursor<'_>) -> Result<Bitmap, ReadFault>
+    ensures item { Takes bitmap_at cursor.old result cursor.new }
+    ensures unmoved { OnErr result (cursor.new ≡ cursor.old) }
 {
-    let count = cursor.take_count(8)?;
-    take_words(alloc, cursor, count)
-}
-
-fn take_words(alloc: Global, cursor: &mut Cursor<'_>, count: u32) -> Result<Bitmap, ReadFault>
-    requires { count ≤ 8 }
-    ensures { Takes (rows_at (λ _. word_at) count []) cursor.old result cursor.new }
-{
-    let mut bitmap = Bitmap::new(alloc);
-    for _ in 0..count {
-        bitmap.push(cursor.take_u32()?)?;
-    }
-    Ok(bitmap)
-}
-
-/// Puts a bitmap: its count of words, and the words.
-pub fn put_bitmap(writer: &mut Writer, words: &[u32]) -> Result<(), Memory>
-    requires { length words.now < 2 ^ 32 }
-    ensures { OnOk result (writer.new ≡ writer.old ++ bitmap words.now) }
-{
-    writer.put_u32(words.len() as u32)?;
-    put_words(writer, words)
-}
-
-fn put_words(writer: &mut Writer, words: &[u32]) -> Result<(), Memory>
-    ensures { OnOk result (writer.new ≡ writer.old ++ flat_map word words.now) }
-{
-    for word in words {
-        writer.put_u32(*word)?;
-    }
-    Ok(())
+    let words = take_words(alloc, cursor, 8)?;
+    Ok(Bitmap { words })
 }

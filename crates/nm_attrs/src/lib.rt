@@ -5,26 +5,25 @@
 //! place. What [`write_fattr`] writes is read again as what was written. A list takes memory only as its rows are read.
 //!
 //! `specs/Bitmaps` says which numbers a bitmap has, `specs/Attributes` which attributes are supported, and the reading
-//! and the one spelling of their values. `specs/Takes` says what a call gives that reads from a cursor and keeps what it
-//! takes: the readers of the crates above go by it too. `proofs/RowLaws` has the steps of a loop over rows, and
-//! `proofs/MadeLaws` and `proofs/ValueLaws` further steps by which a reading and a spelling are shown to belong together.
+//! and the one spelling of their values.
 #![tactic(auto)]
 
 mod bitmap;
 mod fault;
 mod laws;
+mod lengths;
 mod reading;
 mod values;
 mod writing;
 
-pub use bitmap::{Bitmap, put_bitmap, read_bitmap, take_bitmap};
-pub use fault::{AttrFault, ReadFault};
+pub use bitmap::{Bitmap, read_bitmap};
+pub use fault::AttrFault;
 pub use laws::{
     attributes_are_read_as_spelled, attributes_are_read_as_written, bitmaps_are_read_as_spelled,
-    the_least_unsupported_is_told,
+    the_least_unsupported_is_told, the_supported_have_two_words,
 };
 pub use reading::{is_supported, read_fattr};
 pub use values::{
     Attr, AttrKind, AttrLayout, AttrValue, Attrs, FsLocations, Location, Locations, Path,
 };
-pub use writing::write_fattr;
+pub use writing::{fattr_of, write_fattr};

@@ -2,16 +2,18 @@
 ghost use Rattle.std.specs.Prelude.{◌≡◌, ◌++◌, ◌∷◌, [], ◌==◌};
 ghost use Rattle.nm_xdr.specs.Fields.{rows_at, all_of};
 ghost use Rattle.nm_xdr.specs.Items.{opaque_at};
-ghost use Rattle.nm_attrs.specs.Takes.{Takes};
+ghost use Rattle.nm_items.specs.Takes.{Takes};
 ghost use Rattle.nm_attrs.specs.Attributes.{path_at, location_at, locations_at, fs_locations_at, value_at, attr_at, attrs_at, in_bitmap, is_supported, unsupported, fattr_at, AnswersAttrs, table};
 
+use crate::bitmap::take_bitmap;
 use crate::values::supported_attributes;
 use crate::{
     Attr, AttrFault, AttrKind, AttrLayout, AttrValue, Attrs, Bitmap, FsLocations, Location,
-    Locations, Path, ReadFault, take_bitmap,
+    Locations, Path,
 };
+use nm_items::ReadFault;
 use nm_types::Bytes;
-use nm_xdr::{Cursor, XdrFault};
+use nm_xdr::Cursor;
 use std::alloc::Global;
 
 /// Reads the attributes of a bitmap, whose values are all of these bytes (RFC 7530, 5.6 to 5.8; RFC 7531, fattr4).
@@ -19,7 +21,7 @@ use std::alloc::Global;
 /// Unsupported, with the least number, where the bitmap has one that isn't supported. Xdr with the first fault of the values,
 /// and with TooLong (limit 0), at the first byte that is left over and with the number of such bytes. Memory where there is none
 /// for what is kept.
-#[tactic(auto, unfolding(crate::specs::Attributes::fattr_at))]
+#[tactic(auto, using(nm_xdr::proofs::PassLaws::left_over, nm_xdr::proofs::PassLaws::nothing_left), unfolding(crate::specs::Attributes::fattr_at))]
 pub fn read_fattr(alloc: Global, bitmap: &Bitmap, values: &[u8]) -> Result<Attrs, AttrFault>
     ensures { AnswersAttrs result bitmap.now values.now }
 {
@@ -28,12 +30,8 @@ pub fn read_fattr(alloc: Global, bitmap: &Bitmap, values: &[u8]) -> Result<Attrs
     }
     let mut cursor = Cursor::new(values);
     let attrs = take_attrs(alloc, &mut cursor, bitmap, &supported_attributes())?;
-    if cursor.left() > 0 {
-        return Err(AttrFault::Xdr(XdrFault::TooLong {
-            at: cursor.place(),
-            got: cursor.left() as u64,
-            max: 0,
-        }));
+    if let Err(fault) = cursor.end() {
+        return Err(AttrFault::Xdr(fault));
     }
     Ok(attrs)
 }

@@ -2,11 +2,14 @@
 use Rattle.std.proofs.Common.{◌≡◌, ◌≢◌, ℕ, ◌+◌, ◌-◌, ◌^◌, ◌≤◌, ◌<◌, Bool, false, List, [], ◌∷◌, ◌++◌, length, Option, Result, Ok, Err, refl, sym, ap, subst, ◌∙◌, append_assoc, arith}
 use Rattle.std.proofs.lemmas.List.{append-nil, length-append}
 use Rattle.nm_xdr.specs.Fields.{Flaw, short, Fault, Reading, ◌>>=◌, fault_at, field, made, tested, IsItem, IsShortWhereCut}
-use Rattle.nm_xdr.specs.Items.{word, hyper, flag, padding_of, fixed, opaque, structure, word_at, hyper_at, flag_at}
-use Rattle.nm_xdr.proofs.CutLaws.{word_cut, hyper_cut, flag_cut, opaque_cut}
+use Rattle.nm_xdr.specs.Items.{word, hyper, flag, padding_of, fixed, opaque, structure, word_at, hyper_at, flag_at, bytes_at, only_at, choice_at}
+use Rattle.nm_xdr.proofs.CutLaws.{word_cut, hyper_cut, flag_cut, bytes_cut, only_cut, choice_cut}
+use Rattle.nm_xdr.proofs.ByteLaws.{only_item, choice_item, bytes_item}
+use Rattle.nm_items.specs.Parts.{stateid, other_at, stateid_at, named_by, handle_at, IsStateId}
+use Rattle.nm_items.proofs.PartItems.{other, other_item, stateid_parts, stateid_item, handle_item, handle_length}
 use Rattle.nm_xdr.proofs.ItemLaws.{word_item, hyper_item, flag_item}
-use Rattle.nm_rpc.specs.Messages.{CallHeader, parts, header, item_or_missing, auth_at, EndsWithin}
-use Rattle.nm_rpc.specs.Replies.{only_at, choice_at}
+use Rattle.nm_xdr.specs.Fields.{or_missing}
+use Rattle.nm_rpc.specs.Messages.{CallHeader, parts, header, auth_at, EndsWithin}
 use Rattle.nm_rpc.proofs.HeaderLaws.{auth_item}
 use Rattle.nm_types.specs.declared.calls.StateId.{StateId}
 use Rattle.nm_types.specs.declared.wire.Handle.{Handle}
@@ -14,45 +17,28 @@ use Rattle.nm_types.specs.Wire.{handle_bytes, handle_of, IsHandle}
 use Rattle.nm_callback.specs.declared.callback.Callback.{Callback}
 use Rattle.nm_callback.specs.declared.callback.Callback.TheVariants.{Recall}
 use Rattle.nm_callback.specs.declared.callback.CallbackFault.TheVariants.{At}
-use Rattle.nm_callback.specs.Callbacks.{recalls, stateid, operation, compound, body, written_header, recall, opening_at, numbers_at, other_at, stateid_at, bytes_at, named, handle_at, recall_at, operation_at, compound_at, body_at, callback_at, closed, placed, callback_of, IsStateId, recall_items, CanBeRecalled}
-use Rattle.nm_callback.proofs.ItemLaws.{only_item, choice_item, bytes_item, numbers_spelled, other_item, stateid_item, handle_item, handle_length}
+use Rattle.nm_callback.specs.Callbacks.{recalls, operation, compound, body, written_header, recall, opening_at, recall_at, operation_at, compound_at, body_at, callback_at, closed, placed, callback_of, recall_items, CanBeRecalled}
 use Rattle.nm_callback.proofs.OpeningLaws.{IsOpening, opened, opening_again}
-use Rattle.nm_callback.proofs.CutLaws.{CutIn, Cuts, structure-append, cut_none, cut_items, cut_field}
+use Rattle.nm_xdr.proofs.CutStructures.{CutIn, Cuts, structure-append, cut_none, cut_items, cut_field}
 use Rattle.nm_callback.proofs.WrittenLaws.{written_opening}
 
 -- ---- Items
 
-only_cut : (k : ℕ) → k < 2 ^ 32 → IsShortWhereCut (only_at k) word (λ n. n ≡ k)
-unfolding only_at
-only_cut k small n front more is some e = rw (word_cut n front more (omega (arith, is, small)) some e) refl
-
-choice_cut : IsShortWhereCut choice_at word (λ n. n ≤ 1)
-unfolding choice_at
-choice_cut n front more few some e = rw (word_cut n front more (omega (arith, few)) some e) refl
-
-auth_cut : IsShortWhereCut auth_at opaque (λ bytes. length bytes ≤ 400)
-unfolding auth_at
-auth_cut bytes front more fits some e = ap (item_or_missing front) (opaque_cut 400 (omega arith) bytes front more fits some e)
-
-bytes_cut : (max : ℕ) → max < 2 ^ 32 → IsShortWhereCut (bytes_at max) opaque (λ bytes. length bytes ≤ max)
-unfolding bytes_at
-bytes_cut max small bytes front more fits some e = ap (item_or_missing front) (opaque_cut max small bytes front more fits some e)
-
 -- the 12 bytes of a stateid behind its seqid
-other_cut : IsShortWhereCut other_at numbers_spelled (λ o. (o.0 < 2 ^ 32) × (o.1 < 2 ^ 64))
-unfolding other_at numbers_at
+other_cut : IsShortWhereCut other_at other (λ o. (o.0 < 2 ^ 32) × (o.1 < 2 ^ 64))
+unfolding other_at
 other_cut o front more fits some e =
-    let cuts : Cuts numbers_at (word o.0 ∷ hyper o.1 ∷ []) =
+    let cuts : Cuts (field word_at (λ fs. field hyper_at (λ counter. made (fs, counter)))) (word o.0 ∷ hyper o.1 ∷ []) =
     cut_field word_item word_cut (λ fs. field hyper_at (λ counter. made (fs, counter))) o.0 _ fits.0 (
     cut_field hyper_item hyper_cut (λ counter. made (o.0, counter)) o.1 _ fits.1 (
     cut_none (made (o.0, o.1)))) in
-    ap (item_or_missing front) (cuts front more some e).fault
+    ap (or_missing front) (cuts front more some (ap (λ (b : List ℕ). word o.0 ++ b) (append-nil (hyper o.1)) ∙ e)).fault
 
 handle_cut : IsShortWhereCut handle_at (λ h. opaque (handle_bytes h)) IsHandle
 unfolding handle_at
 handle_cut h front more fits some e =
     let len : length (handle_bytes h) ≤ 128 = omega (arith, handle_length h) in
-    ap (λ (r : Result (List ℕ × List ℕ) Fault). r >>= λ b. named (handle_of b.0) front b.1) (bytes_cut 128 (omega arith) (handle_bytes h) front more len some e)
+    ap (λ (r : Result (List ℕ × List ℕ) Fault). r >>= λ b. named_by (handle_of b.0) front b.1) (bytes_cut 128 (omega arith) (handle_bytes h) front more len some e)
 
 -- ---- The parts of a recall
 
@@ -66,27 +52,27 @@ opening_cut h o =
     cut_field (only_item 1 (omega arith)) (only_cut 1 (omega arith)) _ h.version _ o.version (
     cut_field choice_item choice_cut _ h.procedure _ o.procedure (
     cut_field word_item word_cut _ h.flavor _ o.fits.flavor (
-    cut_field auth_item auth_cut _ h.credential _ o.fits.credential (
+    cut_field auth_item (bytes_cut 400 (omega arith)) _ h.credential _ o.fits.credential (
     cut_field word_item word_cut _ h.verifier_flavor _ o.fits.verifier_flavor (
-    cut_field auth_item auth_cut _ h.verifier _ o.fits.verifier (
+    cut_field auth_item (bytes_cut 400 (omega arith)) _ h.verifier _ o.fits.verifier (
     cut_none (made (opened h))))))))))))
 
-stateid_cut : (s : StateId) → IsStateId s → Cuts stateid_at (word s.seqid ∷ numbers_spelled (s.fs, s.counter) ∷ [])
+stateid_cut : (s : StateId) → IsStateId s → Cuts stateid_at (word s.seqid ∷ other (s.fs, s.counter) ∷ [])
 unfolding stateid_at
 stateid_cut s fits =
     cut_field word_item word_cut _ s.seqid _ fits.seqid (
     cut_field other_item other_cut _ (s.fs, s.counter) _ (fits.fs, fits.counter) (
     cut_none (made s)))
 
-state_spelled : (s : StateId) (rest : List ℕ) → structure (word s.seqid ∷ numbers_spelled (s.fs, s.counter) ∷ []) ++ rest ≡ stateid s ++ rest
-unfolding stateid
-state_spelled s rest = ap (λ (b : List ℕ). (word s.seqid ++ b) ++ rest) (append-nil (word s.fs ++ (hyper s.counter ++ [])))
+state_spelled : (s : StateId) (rest : List ℕ) → structure (word s.seqid ∷ other (s.fs, s.counter) ∷ []) ++ rest ≡ stateid s ++ rest
+state_spelled s rest =
+    ap (λ (b : List ℕ). (word s.seqid ++ b) ++ rest) (append-nil (other (s.fs, s.counter))) ∙ ap (λ (b : List ℕ). b ++ rest) (sym (stateid_parts s))
 
 recall_cut : (xid ident : ℕ) (s : StateId) (h : Handle) → IsStateId s → IsHandle h
-    → Cuts (recall_at xid ident) (word s.seqid ∷ numbers_spelled (s.fs, s.counter) ∷ flag false ∷ opaque (handle_bytes h) ∷ [])
+    → Cuts (recall_at xid ident) (word s.seqid ∷ other (s.fs, s.counter) ∷ flag false ∷ opaque (handle_bytes h) ∷ [])
 unfolding recall_at
 recall_cut xid ident s h state handle =
-    cut_items _ s (word s.seqid ∷ numbers_spelled (s.fs, s.counter) ∷ []) _ (stateid_cut s state) (λ rest. ap (λ (b : List ℕ). stateid_at b) (state_spelled s rest) ∙ stateid_item.again s rest state) (
+    cut_items _ s (word s.seqid ∷ other (s.fs, s.counter) ∷ []) _ (stateid_cut s state) (λ rest. ap (λ (b : List ℕ). stateid_at b) (state_spelled s rest) ∙ stateid_item.again s rest state) (
     cut_field flag_item flag_cut _ false _ tt (
     cut_field handle_item handle_cut _ h _ handle (
     cut_none (made (Recall xid ident s h)))))
@@ -94,10 +80,10 @@ recall_cut xid ident s h state handle =
 -- the items behind the header
 abbrev behind_items : ℕ → StateId → Handle → List (List ℕ)
 behind_items ident s h =
-    opaque [] ∷ word 0 ∷ word ident ∷ word 1 ∷ word 4 ∷ word s.seqid ∷ numbers_spelled (s.fs, s.counter) ∷ flag false ∷ opaque (handle_bytes h) ∷ []
+    opaque [] ∷ word 0 ∷ word ident ∷ word 1 ∷ word 4 ∷ word s.seqid ∷ other (s.fs, s.counter) ∷ flag false ∷ opaque (handle_bytes h) ∷ []
 
 operation_cut : (xid ident : ℕ) (s : StateId) (h : Handle) → IsStateId s → IsHandle h
-    → Cuts (operation_at xid ident 4) (word s.seqid ∷ numbers_spelled (s.fs, s.counter) ∷ flag false ∷ opaque (handle_bytes h) ∷ [])
+    → Cuts (operation_at xid ident 4) (word s.seqid ∷ other (s.fs, s.counter) ∷ flag false ∷ opaque (handle_bytes h) ∷ [])
 unfolding operation_at
 operation_cut xid ident s h state handle = recall_cut xid ident s h state handle
 
@@ -130,23 +116,14 @@ callback_cut xid program ident s h can =
 
 -- ---- The place that is told
 
-numbers_alone : (o : ℕ × ℕ) → numbers_spelled o ≡ word o.0 ++ hyper o.1
-numbers_alone o = ap (λ (b : List ℕ). word o.0 ++ b) (append-nil (hyper o.1))
-
-items_are : (xid program ident : ℕ) (s : StateId) (h : Handle)
-    → parts (written_header xid program) ++ behind_items ident s h ≡ recall_items xid program ident s h
-items_are xid program ident s h =
-    ap (λ (b : List ℕ). parts (written_header xid program)
-    ++ (opaque [] ∷ word 0 ∷ word ident ∷ word 1 ∷ word 4 ∷ word s.seqid ∷ b ∷ flag false ∷ opaque (handle_bytes h) ∷ [])) (numbers_alone (s.fs, s.counter))
-
 -- what stands behind the header, as its items
 behind_spelled : (ident : ℕ) (s : StateId) (h : Handle) → structure (behind_items ident s h) ≡ body (compound [] 0 ident (recalls s false h))
-unfolding body operation stateid
+unfolding body operation
 behind_spelled ident s h =
     let tail : List ℕ = flag false ++ (opaque (handle_bytes h) ++ []) in
     ap (λ (b : List ℕ). opaque [] ++ (word 0 ++ (word ident ++ (word 1 ++ b))))
-    (ap (λ (b : List ℕ). word 4 ++ b) (sym (append_assoc (word s.seqid) (numbers_spelled (s.fs, s.counter)) tail))
-    ∙ sym (append-nil (word 4 ++ ((word s.seqid ++ numbers_spelled (s.fs, s.counter)) ++ tail))))
+    (ap (λ (b : List ℕ). word 4 ++ b) (sym (append_assoc (word s.seqid) (other (s.fs, s.counter)) tail) ∙ ap (λ (b : List ℕ). b ++ tail) (sym (stateid_parts s)))
+    ∙ sym (append-nil (word 4 ++ (stateid s ++ tail))))
 
 -- A recall is its items, one after the other.
 recall_spelled : (xid program ident : ℕ) (s : StateId) (h : Handle)
@@ -179,7 +156,5 @@ pub cut_is_refused : (xid program ident : ℕ) (state : StateId) (handle : Handl
     → (at : ℕ) × EndsWithin (recall_items xid program ident state handle) front at × (callback_of front ≡ Err (At at))
 unfolding callback_of
 cut_is_refused xid program ident state handle front more can e some =
-    let c = callback_cut xid program ident state handle can front more some (recall_spelled xid program ident state handle ∙ e) in
-    subst (λ (l : List (List ℕ)). (at : ℕ) × EndsWithin l front at × (placed (length front) (callback_at front >>= λ x. closed x.0 x.1) ≡ Err (At at)))
-    (items_are xid program ident state handle)
-    (told_place (parts (written_header xid program) ++ behind_items ident state handle) front (callback_at front) c)
+    told_place (parts (written_header xid program) ++ behind_items ident state handle) front (callback_at front)
+    (callback_cut xid program ident state handle can front more some (recall_spelled xid program ident state handle ∙ e))

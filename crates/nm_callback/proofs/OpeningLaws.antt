@@ -5,11 +5,11 @@ use Rattle.nm_xdr.specs.Items.{word_at}
 use Rattle.nm_xdr.proofs.FieldLaws.{field_part, made_part, record_item, fits_as}
 use Rattle.nm_xdr.proofs.ItemLaws.{word_item}
 use Rattle.nm_rpc.specs.Messages.{CallHeader, header, IsHeader, auth_at}
-use Rattle.nm_rpc.specs.Replies.{only_at, choice_at}
+use Rattle.nm_xdr.specs.Items.{only_at, choice_at}
 use Rattle.nm_rpc.proofs.HeaderLaws.{auth_item}
 use Rattle.nm_rpc.proofs.Passing.{kept}
 use Rattle.nm_callback.specs.Callbacks.{opening_at}
-use Rattle.nm_callback.proofs.ItemLaws.{only_item, choice_item}
+use Rattle.nm_xdr.proofs.ByteLaws.{only_item, choice_item}
 
 -- all items of the header of a callback
 items_at : Reading CallHeader

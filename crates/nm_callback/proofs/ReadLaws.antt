@@ -3,10 +3,11 @@ use Rattle.std.proofs.Common.{◌≡◌, ◌≢◌, ℕ, ◌+◌, ◌-◌, ◌^�
 use Rattle.std.proofs.lemmas.Bool.{eqb-true, eqb-false, ne_eqb}
 use Rattle.std.proofs.lemmas.List.{append-nil, length-append}
 use Rattle.nm_xdr.specs.Fields.{Fault, Reading, ◌>>=◌, field, made, ended, IsBytes, IsItem}
-use Rattle.nm_xdr.specs.Items.{word, flag, opaque, counted, word_at, flag_at}
+use Rattle.nm_xdr.specs.Items.{word, flag, opaque, counted, word_at, flag_at, bytes_at, words_at}
 use Rattle.nm_xdr.proofs.FieldLaws.{IsBytes-behind, bind_ok, same_value}
 use Rattle.nm_xdr.proofs.ItemLaws.{word_item, flag_item}
-use Rattle.nm_rpc.specs.Messages.{CallHeader, header, IsHeader, passed, pass}
+use Rattle.nm_xdr.specs.Fields.{passed, pass}
+use Rattle.nm_rpc.specs.Messages.{CallHeader, header, IsHeader}
 use Rattle.nm_types.specs.declared.calls.StateId.{StateId}
 use Rattle.nm_types.specs.declared.wire.Handle.{Handle}
 use Rattle.nm_types.specs.Wire.{handle_bytes, IsHandle}
@@ -14,8 +15,10 @@ use Rattle.nm_callback.specs.declared.callback.Callback.{Callback}
 use Rattle.nm_callback.specs.declared.callback.Callback.TheVariants.{Null, Recall, GetAttr, Illegal}
 use Rattle.nm_callback.specs.declared.callback.CallbackFault.{CallbackFault}
 use Rattle.nm_callback.specs.declared.callback.CallbackFault.TheVariants.{At, Memory}
-use Rattle.nm_callback.specs.Callbacks.{Operation, recalls, asks, others, stateid, operation, Body, null, compound, body, procedure_of, opening_at, bytes_at, words_at, recall_at, getattr_at, operation_at, compound_at, body_at, callback_at, closed, placed, callback_of, IsStateId, IsOperation, IsBody, told_operation, told, IsCallback, is_known}
-use Rattle.nm_callback.proofs.ItemLaws.{only_item, bytes_item, stateid_item, handle_item, words_item, passed_found}
+use Rattle.nm_callback.specs.Callbacks.{Operation, recalls, asks, others, operation, Body, null, compound, body, procedure_of, opening_at, recall_at, getattr_at, operation_at, compound_at, body_at, callback_at, closed, placed, callback_of, IsOperation, IsBody, told_operation, told, IsCallback, is_known}
+use Rattle.nm_xdr.proofs.ByteLaws.{only_item, bytes_item, words_item, passed_found}
+use Rattle.nm_items.proofs.PartItems.{stateid_item, handle_item}
+use Rattle.nm_items.specs.Parts.{stateid, IsStateId}
 use Rattle.nm_callback.proofs.OpeningLaws.{IsOpening, opened, opening_found, opening_again}
 
 -- ---- What was read of a field, where all of the bytes came to a callback
@@ -80,9 +83,9 @@ getattr_found : (xid ident : ℕ) (bytes : List ℕ) (c : Callback) → IsBytes 
 unfolding getattr_at operation
 getattr_found xid ident bytes c are e =
     let h = taken (bytes_item 128 (omega arith)) _ bytes c are e in
-    let b = closing_step (pass words_at h.after) (λ _. made (GetAttr xid)) c h.went in
-    let r = passed_found (words_at h.after) b.0.0 b.0.1 b.1 in
-    let w = words_item.found h.after r.0 b.0.1 h.are_bytes r.1 in
+    let b = closing_step (pass (words_at 8) h.after) (λ _. made (GetAttr xid)) c h.went in
+    let r = passed_found (words_at 8 h.after) b.0.0 b.0.1 b.1 in
+    let w = (words_item 8 (omega arith)).found h.after r.0 b.0.1 h.are_bytes r.1 in
     let end = ended_found (GetAttr xid) c b.0.1 b.2 in
     let words_are : h.after ≡ counted word r.0 ++ [] = w.0 ∙ ap (λ (b : List ℕ). counted word r.0 ++ b) end.1 in (
       asks h.value r.0,
@@ -212,8 +215,8 @@ getattr_again : (xid : ℕ) (handle words rest : List ℕ) → length handle ≤
 unfolding getattr_at
 getattr_again xid handle words rest h w =
     field_again (bytes_item 128 (omega arith)) _ handle _ rest h
-    ∙ ap (λ (b : List ℕ). field (pass words_at) (λ _. made (GetAttr xid)) b) (append_assoc (counted word words) [] rest)
-    ∙ ap (λ (r : Result (List ℕ × List ℕ) Fault). passed r >>= λ x. made (GetAttr xid) x.1) (words_item.again words rest w)
+    ∙ ap (λ (b : List ℕ). field (pass (words_at 8)) (λ _. made (GetAttr xid)) b) (append_assoc (counted word words) [] rest)
+    ∙ ap (λ (r : Result (List ℕ × List ℕ) Fault). passed r >>= λ x. made (GetAttr xid) x.1) ((words_item 8 (omega arith)).again words rest w)
 
 operation_again : (xid ident : ℕ) (o : Operation) (rest : List ℕ) → IsOperation o
     → field word_at (operation_at xid ident) (operation o ++ rest) ≡ Ok (told_operation xid ident o, unread o ++ rest)

@@ -1,16 +1,17 @@
 -- Calls from a server to a client (RFC 7530, 16 and 10.4; RFC 7531, CB_COMPOUND4args): their layout, and what is read of any bytes.
 use Rattle.std.specs.Prelude.{◌≡◌, ◌≢◌, ℕ, ◌-◌, ◌^◌, ◌<◌, ◌≤◌, Bool, true, false, ◌==◌, List, [], ◌∷◌, ◌++◌, length, All, Option, Some, None, Result, Ok, Err, if◌then◌else◌}
-use Rattle.nm_xdr.specs.Fields.{short, Fault, Reading, fault_at, ◌>>=◌, field, made, ended}
-use Rattle.nm_xdr.specs.Items.{word, hyper, flag, opaque, counted, structure, word_at, hyper_at, flag_at, opaque_at, counted_at}
+use Rattle.nm_xdr.specs.Fields.{Fault, Reading, ◌>>=◌, field, made, ended, pass}
+use Rattle.nm_xdr.specs.Items.{word, hyper, flag, opaque, counted, structure, word_at, flag_at, bytes_at, only_at, choice_at, words_at}
 use Rattle.nm_xdr.specs.Places.{place_of}
 use Rattle.nm_xdr.specs.declared.fault.XdrFault.{XdrFault}
-use Rattle.nm_rpc.specs.Messages.{CallHeader, parts, header, IsHeader, item, auth_at, pass}
-use Rattle.nm_rpc.specs.Replies.{done, reply, only_at, choice_at}
+use Rattle.nm_rpc.specs.Messages.{CallHeader, parts, header, IsHeader, auth_at}
+use Rattle.nm_rpc.specs.Replies.{done, reply}
 use Rattle.nm_types.specs.declared.calls.StateId.{StateId}
 use Rattle.nm_types.specs.declared.wire.Handle.{Handle}
 use Rattle.nm_types.specs.declared.status.OpStatus.{OpStatus}
 use Rattle.nm_types.specs.Statuses.{number_of}
-use Rattle.nm_types.specs.Wire.{handle_bytes, handle_of, IsHandle}
+use Rattle.nm_types.specs.Wire.{handle_bytes, IsHandle}
+use Rattle.nm_items.specs.Parts.{stateid, stateid_at, IsStateId, handle_at}
 use Rattle.nm_callback.specs.declared.callback.Callback.{Callback}
 use Rattle.nm_callback.specs.declared.callback.Callback.TheVariants.{Null, Recall, GetAttr, Illegal}
 use Rattle.nm_callback.specs.declared.callback.CallbackFault.{CallbackFault}
@@ -26,10 +27,6 @@ pub data Operation : Type 0 where
   asks : List ℕ → List ℕ → Operation
   -- another number, and whatever follows it
   others : ℕ → List ℕ → Operation
-
--- a stateid (stateid4): its seqid, and 12 bytes with the file system and the counter
-unfoldable pub stateid : StateId → List ℕ
-stateid s = structure (word s.seqid ∷ word s.fs ∷ hyper s.counter ∷ [])
 
 -- an operation: its number, and its arguments
 unfoldable pub operation : Operation → List ℕ
@@ -92,39 +89,11 @@ opening_at =
     field word_at (λ flavor. field auth_at (λ credential. field word_at (λ verifier_flavor. field auth_at (λ verifier.
     made (xid, procedure)))))))))))
 
--- the file system and the counter of a stateid
-unfoldable pub numbers_at : Reading (ℕ × ℕ)
-numbers_at = field word_at (λ fs. field hyper_at (λ counter. made (fs, counter)))
-
--- the 12 bytes behind the seqid of a stateid, which are one item
-unfoldable pub other_at : Reading (ℕ × ℕ)
-other_at = item numbers_at
-
-unfoldable pub stateid_at : Reading StateId
-stateid_at = field word_at (λ seqid. field other_at (λ other. made (record { seqid = seqid; fs = other.0; counter = other.1 })))
-
--- bytes of which there are at most so many
-unfoldable pub bytes_at : ℕ → Reading (List ℕ)
-bytes_at max = item (opaque_at max)
-
--- the handle that has these bytes, which begin at those
-abbrev pub named : Option Handle → List ℕ → List ℕ → Result (Handle × List ℕ) Fault
-named None bytes rest = fault_at short bytes
-named (Some handle) bytes rest = Ok (handle, rest)
-
--- a handle that this profile makes
-unfoldable pub handle_at : Reading Handle
-handle_at bytes = bytes_at 128 bytes >>= λ b. named (handle_of b.0) bytes b.1
-
--- the words of a bitmap, of which there are at most 8
-unfoldable pub words_at : Reading (List ℕ)
-words_at = counted_at 8 (λ _. word_at)
-
 unfoldable pub recall_at : ℕ → ℕ → Reading Callback
 recall_at xid ident = field stateid_at (λ state. field flag_at (λ truncate. field handle_at (λ handle. made (Recall xid ident state handle))))
 
 unfoldable pub getattr_at : ℕ → Reading Callback
-getattr_at xid = field (bytes_at 128) (λ handle. field (pass words_at) (λ words. made (GetAttr xid)))
+getattr_at xid = field (bytes_at 128) (λ handle. field (pass (words_at 8)) (λ words. made (GetAttr xid)))
 
 -- by the number of the operation
 unfoldable pub operation_at : ℕ → ℕ → ℕ → Reading Callback
@@ -170,12 +139,6 @@ IsWithin total (Err (At at)) = at ≤ total
 IsWithin total (Err Memory) = ⊥
 
 -- ---- What a callback is, apart from how it is read
-
--- any 16 bytes are a stateid
-pub record IsStateId (s : StateId) : Type 0 where
-  pub seqid : s.seqid < 2 ^ 32
-  pub fs : s.fs < 2 ^ 32
-  pub counter : s.counter < 2 ^ 64
 
 -- What a callback's operation can be: a handle is one that this profile makes, but for that of CB_GETATTR, and other
 -- numbers than 3 and 4 are unknown.

@@ -1,9 +1,11 @@
 //! What a server asks of a client, and why bytes aren't that.
 ghost use Rattle.std.specs.Prelude.{◌≡◌};
-ghost use Rattle.nm_xdr.specs.Places.{place_of};
 
 use nm_types::{Handle, StateId};
 use nm_xdr::XdrFault;
+
+/// The version of a client's program (RFC 7531, NFS4_CALLBACK).
+pub(crate) const VERSION: u32 = 1;
 
 /// A call from a server to a client (RFC 7530, 15.3 and 16). Each has the xid, the number that the reply will have.
 #[derive(Clone, Copy, Debug)]
@@ -50,21 +52,6 @@ impl From<XdrFault> for CallbackFault {
     ghost from_gives = { λ e fault. fault ≡ as_callback_fault e };
 
     fn from(fault: XdrFault) -> Self {
-        CallbackFault::At {
-            at: place_of_fault(fault),
-        }
-    }
-}
-
-// The place that a fault tells.
-fn place_of_fault(fault: XdrFault) -> usize
-    ensures { result ≡ place_of fault }
-{
-    match fault {
-        XdrFault::Short { at }
-        | XdrFault::Padding { at }
-        | XdrFault::Bool { at, .. }
-        | XdrFault::TooLong { at, .. }
-        | XdrFault::Enum { at, .. } => at,
+        CallbackFault::At { at: fault.place() }
     }
 }

@@ -8,12 +8,11 @@
 //! in which it is cut.
 //!
 //! `specs/Callbacks` has the layout, what is read of any bytes, and what bytes are a callback apart from how they are read.
-//! The header is that of nm_rpc.
+//! The header is that of nm_rpc, and the stateid and the filehandle are those of nm_items.
 #![tactic(auto)]
 
 mod callback;
 mod laws;
-mod parts;
 mod reading;
 mod writing;
 

@@ -3,10 +3,9 @@ ghost use Rattle.std.specs.Prelude.{◌≡◌, ◌≤◌, length};
 ghost use Rattle.nm_xdr.specs.Places.{Gives};
 ghost use Rattle.nm_callback.specs.Callbacks.{opening_at, body_at, compound_at, operation_at, getattr_at, recall_at, callback_at, callback_of, IsWithin};
 
-use crate::parts::{
-    VERSION, pass_bitmap, take_auth, take_bytes, take_choice, take_handle, take_only, take_stateid,
-};
+use crate::callback::VERSION;
 use crate::{Callback, CallbackFault};
+use nm_items::{take_handle, take_stateid};
 use nm_xdr::{Cursor, XdrFault};
 
 /// Reads a call from a server to a client (RFC 5531, 9; RFC 7530, 15.3 and 16; RFC 7531, CB_COMPOUND4args), which is all of
@@ -55,15 +54,15 @@ fn take_opening(cursor: &mut Cursor<'_>) -> Result<(u32, u32), XdrFault>
     ensures { Gives (λ o. o) opening_at cursor.old result cursor.new }
 {
     let xid = cursor.take_u32()?;
-    take_only(cursor, 0)?;
-    take_only(cursor, 2)?;
+    cursor.take_only(0)?;
+    cursor.take_only(2)?;
     cursor.take_u32()?;
-    take_only(cursor, VERSION)?;
-    let procedure = take_choice(cursor)?;
+    cursor.take_only(VERSION)?;
+    let procedure = cursor.take_choice()?;
     cursor.take_u32()?;
-    take_auth(cursor)?;
+    cursor.take_bytes(400)?;
     cursor.take_u32()?;
-    take_auth(cursor)?;
+    cursor.take_bytes(400)?;
     Ok((xid, procedure))
 }
 
@@ -72,10 +71,10 @@ fn take_opening(cursor: &mut Cursor<'_>) -> Result<(u32, u32), XdrFault>
 fn take_compound(cursor: &mut Cursor<'_>, xid: u32) -> Result<Callback, XdrFault>
     ensures { Gives (λ c. c) (compound_at xid) cursor.old result cursor.new }
 {
-    take_bytes(cursor, 1024)?;
+    cursor.take_bytes(1024)?;
     cursor.take_u32()?;
     let ident = cursor.take_u32()?;
-    take_only(cursor, 1)?;
+    cursor.take_only(1)?;
     let op = cursor.take_u32()?;
     take_operation(cursor, xid, ident, op)
 }
@@ -101,8 +100,8 @@ fn take_operation(
 fn take_getattr(cursor: &mut Cursor<'_>, xid: u32) -> Result<Callback, XdrFault>
     ensures { Gives (λ c. c) (getattr_at xid) cursor.old result cursor.new }
 {
-    take_bytes(cursor, 128)?;
-    pass_bitmap(cursor)?;
+    cursor.take_bytes(128)?;
+    cursor.pass_words(8)?;
     Ok(Callback::GetAttr { xid })
 }
 

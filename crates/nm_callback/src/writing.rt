@@ -2,8 +2,9 @@
 ghost use Rattle.std.specs.Prelude.{◌≡◌, ◌++◌, false, [], OnOk, IfOk};
 ghost use Rattle.nm_callback.specs.Callbacks.{body, compound, recalls, recall, result_body, callback_reply};
 
-use crate::parts::{VERSION, put_stateid};
-use nm_rpc::{CallHead, write_call, write_reply};
+use crate::callback::VERSION;
+use nm_items::put_stateid;
+use nm_rpc::{CallHead, put_call_head, put_reply_head};
 use nm_types::{Bytes, Handle, Memory, OpStatus, Principal, StateId};
 use nm_xdr::Writer;
 use std::alloc::Global;
@@ -13,7 +14,7 @@ use std::alloc::Global;
 /// with its address.
 ///
 /// Memory where there is none for the bytes.
-#[tactic(auto, unfolding(crate::specs::Callbacks::recall, nm_rpc::specs::Messages::call, nm_rpc::specs::Messages::credential))]
+#[tactic(auto, unfolding(crate::specs::Callbacks::recall, nm_rpc::specs::Messages::credential))]
 pub fn write_recall(
     alloc: Global,
     xid: u32,
@@ -24,9 +25,6 @@ pub fn write_recall(
 ) -> Result<Vec<u8>, Memory>
     ensures { IfOk result (λ bytes. bytes.items ≡ recall xid program ident state handle) }
 {
-    let mut writer = Writer::new(alloc);
-    put_recall(&mut writer, ident, &state, handle)?;
-    let body = writer.finish();
     let head = CallHead {
         xid,
         program,
@@ -36,18 +34,16 @@ pub fn write_recall(
         machine: Bytes::new(alloc),
         body: 0,
     };
-    write_call(alloc, &head, &body)
+    let mut writer = Writer::new(alloc);
+    put_call_head(&mut writer, &head)?;
+    put_recall(&mut writer, ident, state, handle)?;
+    Ok(writer.finish())
 }
 
 // What stands behind the header of a recall.
 #[tactic(auto, unfolding(crate::specs::Callbacks::body, crate::specs::Callbacks::operation))]
-fn put_recall(
-    writer: &mut Writer,
-    ident: u32,
-    state: &StateId,
-    handle: Handle,
-) -> Result<(), Memory>
-    ensures { OnOk result (writer.new ≡ writer.old ++ body (compound [] 0 ident (recalls state.now false handle))) }
+fn put_recall(writer: &mut Writer, ident: u32, state: StateId, handle: Handle) -> Result<(), Memory>
+    ensures { OnOk result (writer.new ≡ writer.old ++ body (compound [] 0 ident (recalls state false handle))) }
 {
     writer.put_opaque(&[])?;
     writer.put_u32(0)?;
@@ -63,7 +59,7 @@ fn put_recall(
 /// with the number of the operation, 3 and 4 or 10044 for an unknown one, and the status, which is that of the whole too.
 ///
 /// Memory where there is none for the bytes.
-#[tactic(auto, unfolding(crate::specs::Callbacks::callback_reply))]
+#[tactic(auto, unfolding(crate::specs::Callbacks::callback_reply, nm_rpc::specs::Replies::reply))]
 pub fn write_callback_reply(
     alloc: Global,
     xid: u32,
@@ -73,9 +69,9 @@ pub fn write_callback_reply(
     ensures { IfOk result (λ bytes. bytes.items ≡ callback_reply xid op status) }
 {
     let mut writer = Writer::new(alloc);
+    put_reply_head(&mut writer, xid)?;
     put_result(&mut writer, op, status)?;
-    let body = writer.finish();
-    write_reply(alloc, xid, &body)
+    Ok(writer.finish())
 }
 
 // What stands behind the header of a reply.

@@ -4,8 +4,8 @@ ghost use Rattle.nm_attrs.specs.Attributes.{AreAttrs};
 
 use crate::{Fault, text};
 use nm_attrs::{
-    Attr, AttrFault, AttrValue, Attrs, Bitmap, FsLocations, Path, is_supported, put_bitmap,
-    read_bitmap, read_fattr, write_fattr,
+    Attr, AttrFault, AttrValue, Attrs, Bitmap, FsLocations, Path, is_supported, read_bitmap,
+    read_fattr, write_fattr,
 };
 use nm_types::Items;
 use nm_xdr::{Cursor, Writer};
@@ -84,7 +84,7 @@ fn put_bitmap_again(
     out: &mut String,
 ) -> Result<(), Fault> {
     let mut writer = Writer::new(alloc);
-    put_bitmap(&mut writer, bitmap.items())?;
+    writer.put_words(bitmap.items())?;
     let read = match bytes.get(..place) {
         Some(read) => read,
         None => bytes,
@@ -216,6 +216,6 @@ fn size_and_mode(alloc: Global) -> Result<Attrs, Fault>
 fn put_attributes(alloc: Global, out: &mut String) -> Result<(), Fault> {
     let mut writer = Writer::new(alloc);
     writer.put_u32(7)?;
-    write_fattr(alloc, &size_and_mode(alloc)?, &mut writer)?;
+    write_fattr(&size_and_mode(alloc)?, &mut writer)?;
     text::put_bytes(out, &writer.finish())
 }

@@ -1,6 +1,7 @@
 //! The kinds of cases, by their first word.
 use crate::{
-    Fault, args, attrs, callback, results, rpc_messages, rpc_names, rpc_records, rules, xdr,
+    Fault, args, attrs, callback, kept, result_places, results, rpc_messages, rpc_names,
+    rpc_records, rules, xdr,
 };
 use std::alloc::Global;
 
@@ -19,6 +20,9 @@ pub(crate) fn line(alloc: Global, words: &[&str], out: &mut String) -> Result<()
         ),
         "args" | "args-end" => args::line(alloc, words, out),
         "results" | "results-end" => results::line(alloc, words, out),
+        "kept" => kept::line(alloc, words, out),
+        "places" => result_places::places(alloc, words, out),
+        "result-length" => result_places::length(alloc, words, out),
         "callback-reply" => callback::reply(alloc, words, out),
         "callback" => callback::line(alloc, words, out),
         _ => rules::line(alloc, words, out),

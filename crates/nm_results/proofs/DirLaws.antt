@@ -1,19 +1,20 @@
 -- The reading and the spellings of the values of CREATE and READDIR belong together.
-use Rattle.std.proofs.Common.{◌≡◌, ℕ, zero, suc, ◌+◌, ◌-◌, ◌^◌, ◌≤◌, ◌<◌, Bool, true, false, List, [], ◌∷◌, ◌++◌, length, Option, Some, None, Result, Ok, Err, All, refl, sym, ap, subst, ◌∙◌, append_assoc, arith}
+use Rattle.std.proofs.Common.{◌≡◌, ℕ, zero, suc, ◌<◌, Bool, true, false, List, [], ◌∷◌, ◌++◌, length, Option, Some, None, Result, Ok, All, refl, sym, ap, subst, ◌∙◌, append_assoc, arith}
 use Rattle.std.proofs.lemmas.List.{append-nil, length-append}
 use Rattle.std.proofs.lemmas.List.Elements.{All-from_recursion, recursion_from_All}
 use Rattle.std.specs.List.{AllByRecursion, flat_map}
 use Rattle.std.specs.Prelude.{IfSome}
-use Rattle.nm_xdr.specs.Fields.{Fault, Reading, ◌>>=◌, field, made, IsBytes, IsItem}
-use Rattle.nm_xdr.specs.Items.{word, flag, optional, optional_at}
+use Rattle.nm_xdr.specs.Fields.{Fault, ◌>>=◌, IsBytes, IsItem}
+use Rattle.nm_xdr.specs.Items.{flag, optional, optional_at}
 use Rattle.nm_xdr.proofs.FieldLaws.{IsBytes-behind, field_part, made_part, record_item, fits_as, bind_ok, same_value}
-use Rattle.nm_xdr.proofs.ItemLaws.{hyper_item, flag_item, opaque_item, optional_item}
-use Rattle.nm_attrs.proofs.ValueLaws.{bitmap_item}
+use Rattle.nm_xdr.proofs.ByteLaws.{bytes_item}
+use Rattle.nm_xdr.proofs.ItemLaws.{hyper_item, flag_item, optional_item}
+use Rattle.nm_items.proofs.PartItems.{bitmap_item, fattr_item}
 use Rattle.nm_results.specs.declared.values.DirEntry.{DirEntry}
 use Rattle.nm_results.specs.declared.values.ReadDirOk.{ReadDirOk}
 use Rattle.nm_results.specs.Directories.{AnyCreate, create, create_at, create_of, IsAnyCreate, entry, entry_at, IsEntry, entries, behind_mark, entries_at, all_entries_at, dir_bytes, dir_at, IsDir}
 use Rattle.nm_results.proofs.KeepLaws.{KeepsItem, keeps_made, keeps_field, keeps_item, keeps_record, keeps_as}
-use Rattle.nm_results.proofs.PartLaws.{bytes_item, word_length, change_item, fattr_item}
+use Rattle.nm_results.proofs.PartLaws.{word_length, change_item}
 
 pub create_item : KeepsItem create_of create_at create IsAnyCreate
 unfolding create_at create

@@ -1,12 +1,11 @@
 -- A loop over entries: each step leaves fewer of them to read.
-use Rattle.std.proofs.Common.{◌≡◌, ℕ, suc, ◌+◌, ◌-◌, ◌≤◌, ◌<◌, List, [], ◌∷◌, ◌++◌, length, Option, Some, None, Result, Ok, Err, refl, sym, ap, subst, ◌∙◌, arith}
-use Rattle.nm_xdr.specs.declared.fault.XdrFault.{XdrFault}
+use Rattle.std.proofs.Common.{◌≡◌, ℕ, suc, ◌+◌, ◌-◌, ◌≤◌, ◌<◌, List, [], ◌∷◌, ◌++◌, length, Option, Some, None, Ok, Err, refl, sym, ap, subst, ◌∙◌, arith}
 use Rattle.nm_xdr.specs.Fields.{short, Fault, fault_at}
 use Rattle.nm_xdr.specs.Items.{optional_at}
 use Rattle.nm_xdr.specs.Places.{Spot, end_of, fault_of, place_of}
-use Rattle.nm_attrs.specs.declared.fault.ReadFault.{ReadFault}
-use Rattle.nm_attrs.specs.declared.fault.ReadFault.TheVariants.{Xdr, Memory}
-use Rattle.nm_attrs.specs.Takes.{Fails}
+use Rattle.nm_items.specs.declared.fault.ReadFault.{ReadFault}
+use Rattle.nm_items.specs.declared.fault.ReadFault.TheVariants.{Xdr, Memory}
+use Rattle.nm_items.specs.Takes.{Fails}
 use Rattle.nm_results.specs.declared.values.DirEntry.{DirEntry}
 use Rattle.nm_results.specs.Directories.{entry_at, entries_at}
 

@@ -1,6 +1,6 @@
 -- Values that keep less than all that stands in a message: how their reading and the spellings of all belong together, by one
 -- line a field.
-use Rattle.std.proofs.Common.{◌≡◌, ℕ, List, [], ◌∷◌, ◌++◌, Result, Ok, Err, refl, sym, ap, subst, ◌∙◌, append_assoc}
+use Rattle.std.proofs.Common.{◌≡◌, ℕ, List, [], ◌++◌, Result, Ok, refl, sym, ap, subst, ◌∙◌, append_assoc}
 use Rattle.nm_xdr.specs.Fields.{Fault, Reading, ◌>>=◌, field, made, IsBytes, IsItem}
 use Rattle.nm_xdr.proofs.FieldLaws.{IsBytes-behind, bind_ok, same_value}
 

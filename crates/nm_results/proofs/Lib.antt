@@ -1,10 +1,16 @@
 pub mod DirLaws
 pub mod EntryLaws
+pub mod HolderLaws
 pub mod KeepLaws
+pub mod KeptLaws
+pub mod KeptLockLaws
+pub mod KeptOpenLaws
+pub mod LengthLaws
 pub mod OpenLaws
 pub mod PartLaws
 pub mod PlaceLaws
 pub mod ResultLaws
+pub mod ResultPlaceLaws
 pub mod StatusLaws
 pub mod ValueLaws
 pub mod WrittenLaws

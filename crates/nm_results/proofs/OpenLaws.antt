@@ -1,19 +1,20 @@
 -- The reading and the spellings of the value of OPEN belong together.
-use Rattle.std.proofs.Common.{◌≡◌, ℕ, zero, suc, ◌+◌, ◌^◌, ◌≤◌, ◌<◌, Bool, true, cond, eqb, leb, List, [], ◌∷◌, ◌++◌, length, Result, Ok, Err, refl, sym, ap, subst, ◌∙◌, append_assoc, arith}
-use Rattle.std.proofs.lemmas.Bool.{eqb-true, leb-true, le-leb}
+use Rattle.std.proofs.Common.{◌≡◌, ℕ, zero, suc, ◌^◌, ◌≤◌, ◌<◌, Bool, leb, List, [], ◌++◌, Result, Ok, refl, sym, ap, subst, ◌∙◌, append_assoc, arith}
+use Rattle.std.proofs.lemmas.Bool.{leb-true, le-leb}
 use Rattle.std.proofs.lemmas.List.{append-nil}
-use Rattle.nm_xdr.specs.Fields.{enum, Fault, Reading, ◌>>=◌, field, made, tested, IsBytes, IsItem}
-use Rattle.nm_xdr.specs.Items.{word, hyper, flag, opaque}
+use Rattle.nm_xdr.specs.Fields.{enum, Fault, ◌>>=◌, IsBytes, IsItem}
+use Rattle.nm_xdr.specs.Items.{word, hyper, flag}
 use Rattle.nm_xdr.proofs.FieldLaws.{IsBytes-behind, bind_ok, same_value, tested_item, fits_as}
-use Rattle.nm_xdr.proofs.ItemLaws.{word_item, hyper_item, flag_item, opaque_item}
-use Rattle.nm_attrs.proofs.ValueLaws.{bitmap_item}
+use Rattle.nm_xdr.proofs.ByteLaws.{bytes_item, only_item}
+use Rattle.nm_xdr.proofs.ItemLaws.{word_item, hyper_item, flag_item}
+use Rattle.nm_items.proofs.PartItems.{stateid_item, bitmap_item}
 use Rattle.nm_types.specs.declared.calls.StateId.{StateId}
 use Rattle.nm_types.specs.declared.results.OpenDelegation.{OpenDelegation}
 use Rattle.nm_types.specs.declared.results.OpenDelegation.TheVariants as delegation
-use Rattle.nm_results.specs.Parts.{stateid, IsStateId}
-use Rattle.nm_results.specs.Opens.{Ace, ace, IsAce, ace_behind, AnyDelegation, none, reads, writes, delegation_bytes, IsAnyDelegation, delegation_of, only_at, reads_at, writes_at, kind_at, delegation_as, delegation_at, AnyOpen, open_bytes, open_at, open_of, IsAnyOpen}
+use Rattle.nm_items.specs.Parts.{stateid, IsStateId}
+use Rattle.nm_results.specs.Opens.{Ace, ace, IsAce, ace_behind, AnyDelegation, none, reads, writes, delegation_bytes, IsAnyDelegation, delegation_of, reads_at, writes_at, kind_at, delegation_as, delegation_at, AnyOpen, open_bytes, open_at, open_of, IsAnyOpen}
 use Rattle.nm_results.proofs.KeepLaws.{KeepsItem, keeps_made, keeps_field, keeps_item, keeps_record, keeps_as}
-use Rattle.nm_results.proofs.PartLaws.{bytes_item, stateid_item, change_item}
+use Rattle.nm_results.proofs.PartLaws.{change_item}
 
 -- ---- Delegations
 
@@ -46,12 +47,6 @@ reads_item =
     keeps_item (λ (r : Reads). r.2.who) _ (bytes_item 1024 (omega arith)) (
     keeps_made (λ s. (s.0.0.0.0.0.1, s.0.0.0.0.1, record { kind = s.0.0.0.1; flags = s.0.0.1; mask = s.0.1; who = s.1 })) _ (λ _. refl) (λ _. refl) (λ _. refl)))))))))
 
-only_item : IsItem (only_at 1) word (λ n. n ≡ 1)
-unfolding only_at
-only_item =
-    fits_as (λ n. n ≡ 1) (λ n e. (rw e (omega arith), rw e refl)) (λ n f. eqb-true n 1 f.1)
-    (tested_item (λ n. eqb n 1) enum word_item)
-
 abbrev AreWrites : Writes → Type 0
 AreWrites w = IsStateId w.0 × (w.2 ≡ 1) × (w.3 < 2 ^ 64) × IsAce w.4
 
@@ -64,7 +59,7 @@ writes_item =
     keeps_record (
     keeps_item (λ (w : Writes). w.0) _ stateid_item (
     keeps_item (λ (w : Writes). w.1) _ flag_item (
-    keeps_item (λ (w : Writes). w.2) _ only_item (
+    keeps_item (λ (w : Writes). w.2) _ (only_item 1 (omega arith)) (
     keeps_item (λ (w : Writes). w.3) _ hyper_item (
     keeps_item (λ (w : Writes). w.4.kind) _ word_item (
     keeps_item (λ (w : Writes). w.4.flags) _ word_item (
@@ -97,7 +92,7 @@ chosen (suc (suc zero)) le bytes d rest fits e =
     )
 chosen (suc (suc (suc n))) le bytes d rest fits e = absurd (omega (arith, le))
 
-kind_item : IsItem kind_at word (λ n. n ≤ 2)
+pub kind_item : IsItem kind_at word (λ n. n ≤ 2)
 unfolding kind_at
 kind_item =
     fits_as (λ n. n ≤ 2) (λ n le. (omega (arith, le), le-leb n 2 le)) (λ n f. leb-true n 2 f.1)

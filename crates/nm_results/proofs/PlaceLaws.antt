@@ -1,13 +1,13 @@
 -- The place of a fault, told by how many bytes are left from there on.
-use Rattle.std.proofs.Common.{◌≡◌, ℕ, ◌+◌, ◌-◌, ◌≤◌, ◌<◌, List, [], ◌∷◌, length, Option, Some, Result, Ok, Err, refl, sym, ap, ◌∙◌, arith}
+use Rattle.std.proofs.Common.{◌≡◌, ℕ, ◌+◌, ◌-◌, ◌≤◌, ◌<◌, List, [], ◌∷◌, length, Some, Ok, Err, refl, ap, arith}
 use Rattle.nm_xdr.specs.declared.fault.XdrFault.{XdrFault}
 use Rattle.nm_xdr.specs.declared.fault.XdrFault.TheVariants as told
-use Rattle.nm_xdr.specs.Fields.{Fault, Reading, ◌>>=◌, ended, all_of}
+use Rattle.nm_xdr.specs.Fields.{Reading, ended, all_of}
 use Rattle.nm_xdr.specs.Places.{fault_of, place_of}
 use Rattle.nm_results.specs.Results.{place_in}
 
 -- A fault at a place within the input is told with this place.
-place_back : (total : ℕ) (e : XdrFault) → place_of e ≤ total → total - (fault_of total e).left ≡ place_of e
+pub place_back : (total : ℕ) (e : XdrFault) → place_of e ≤ total → total - (fault_of total e).left ≡ place_of e
 place_back total (told.Short at) le = omega (arith, le)
 place_back total (told.Padding at) le = omega (arith, le)
 place_back total (told.Bool at got) le = omega (arith, le)

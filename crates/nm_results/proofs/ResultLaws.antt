@@ -1,11 +1,12 @@
 -- The reading of results, and the bytes that are results, belong together.
-use Rattle.std.proofs.Common.{◌≡◌, ℕ, zero, suc, ◌+◌, ◌-◌, ◌^◌, ◌≤◌, ◌<◌, Bool, true, cond, List, [], ◌∷◌, ◌++◌, length, Option, Some, None, Result, Ok, Err, refl, sym, ap, subst, ◌∙◌, append_assoc, arith}
+use Rattle.std.proofs.Common.{◌≡◌, ℕ, zero, suc, ◌-◌, ◌*◌, ◌^◌, ◌≤◌, ◌<◌, true, List, [], ◌∷◌, ◌++◌, length, Option, Some, None, Result, Ok, refl, sym, ap, subst, ◌∙◌, append_assoc, arith}
 use Rattle.std.proofs.lemmas.Bool.Decides.{nat_tests}
-use Rattle.std.proofs.lemmas.List.{append-nil}
-use Rattle.nm_xdr.specs.Fields.{enum, Fault, Reading, ◌>>=◌, field, made, tested, rows_at, ended, all_of, IsBytes, IsItem}
-use Rattle.nm_xdr.specs.Items.{word, opaque, counted_at, opaque_at, length_at}
-use Rattle.nm_xdr.proofs.FieldLaws.{IsBytes-behind, bind_ok, same_value, tested_item, fits_as}
-use Rattle.nm_xdr.proofs.ItemLaws.{word_item, length_item, opaque_item}
+use Rattle.std.proofs.lemmas.List.{append-nil, length-append}
+use Rattle.nm_xdr.specs.Fields.{enum, Fault, Reading, ◌>>=◌, field, made, rows_at, ended, all_of, IsBytes, IsItem}
+use Rattle.nm_xdr.specs.Items.{word, opaque, counted_at}
+use Rattle.nm_xdr.proofs.FieldLaws.{IsBytes-behind, bind_ok, same_value, tested_item}
+use Rattle.nm_xdr.proofs.ByteLaws.{bytes_item}
+use Rattle.nm_xdr.proofs.ItemLaws.{word_item, length_item}
 use Rattle.nm_types.specs.declared.status.OpStatus.{OpStatus}
 use Rattle.nm_types.specs.Statuses.{number_of}
 use Rattle.nm_results.specs.declared.arms.Arm.{Arm}
@@ -13,10 +14,10 @@ use Rattle.nm_results.specs.declared.values.ResultValue.{ResultValue}
 use Rattle.nm_results.specs.declared.values.OpResult.{OpResult}
 use Rattle.nm_results.specs.declared.values.Results.{Results}
 use Rattle.nm_results.specs.Arms.{is_op, arm_of}
-use Rattle.nm_results.specs.Values.{arm_with, value_at, IsSpelling}
+use Rattle.nm_results.specs.Values.{arm_with, value_at}
 use Rattle.nm_results.specs.Results.{op_at, status_at, judged, arm_at, result_at, items_at, results_at, results_of, IsResult, AreRows, IsResults}
-use Rattle.nm_results.proofs.PartLaws.{bytes_item}
-use Rattle.nm_results.proofs.StatusLaws.{small, status_item}
+use Rattle.nm_results.proofs.PartLaws.{word_length}
+use Rattle.nm_results.proofs.StatusLaws.{status_item}
 use Rattle.nm_results.proofs.ValueLaws.{value_found, value_again}
 
 -- ---- A field that was read
@@ -45,7 +46,7 @@ taken {A} {Y} {read} {spell} {Fits} item more bytes y rest fits e =
     }
 
 -- A field that is spelled is read, and what comes after it.
-given : {A Y : Type 0} {read : Reading A} {spell : A → List ℕ} {Fits : A → Type 0} → IsItem read spell Fits
+pub given : {A Y : Type 0} {read : Reading A} {spell : A → List ℕ} {Fits : A → Type 0} → IsItem read spell Fits
     → (more : A → Reading Y) (x : A) (rest : List ℕ) → Fits x → field read more (spell x ++ rest) ≡ more x rest
 given {A} {Y} {read} {spell} {Fits} item more x rest fits = ap (λ (r : Result (A × List ℕ) Fault). r >>= λ a. more a.0 a.1) (item.again x rest fits)
 
@@ -137,7 +138,7 @@ each_found (suc count) earlier bytes rs rest fits e =
       (first.0, others.1, first.2, others.5, refl),
     )
 
-each_again : (more earlier : List OpResult) (rows rest : List ℕ) → AreRows more rows
+pub each_again : (more earlier : List OpResult) (rows rest : List ℕ) → AreRows more rows
     → rows_at (λ _. result_at) (length more) earlier (rows ++ rest) ≡ Ok (earlier ++ more, rest)
 unfolding rows_at
 each_again [] earlier rows rest are =
@@ -151,7 +152,7 @@ each_again (r ∷ more) earlier rows rest are =
 
 -- ---- All of it
 
-apart : (a b c d rest : List ℕ) → (a ++ (b ++ (c ++ d))) ++ rest ≡ a ++ (b ++ (c ++ (d ++ rest)))
+pub apart : (a b c d rest : List ℕ) → (a ++ (b ++ (c ++ d))) ++ rest ≡ a ++ (b ++ (c ++ (d ++ rest)))
 apart a b c d rest =
     append_assoc a (b ++ (c ++ d)) rest ∙ ap (λ (r : List ℕ). a ++ r) (append_assoc b (c ++ d) rest ∙ ap (λ (r : List ℕ). b ++ r) (append_assoc c d rest))
 
@@ -209,3 +210,19 @@ unfolding results_of
 results_again v bytes is =
     ap (λ (b : List ℕ). all_of results_at b) (sym (append-nil bytes))
     ∙ ap (λ (r : Result (Results × List ℕ) Fault). r >>= λ x. ended x.0 x.1) (whole_again v bytes [] is)
+
+-- ---- How many results there are
+
+result_long : (r : OpResult) (bytes : List ℕ) → IsResult r bytes → 8 ≤ length bytes
+result_long r bytes is =
+    omega (arith, ap length is.spelled, length-append (word r.op) (word (number_of r.status) ++ is.body), length-append (word (number_of r.status)) is.body, word_length r.op, word_length (number_of r.status))
+
+rows_long : (rs : List OpResult) (bytes : List ℕ) → AreRows rs bytes → 8 * length rs ≤ length bytes
+rows_long [] bytes are = omega arith
+rows_long (r ∷ rs) bytes are = omega (arith, ap length are.4, length-append are.0 are.1, result_long r are.0 are.2, rows_long rs are.1 are.3)
+
+-- Of each result that is read there are eight bytes.
+pub results_few : (bytes : List ℕ) (v : Results) → IsBytes bytes → results_of bytes ≡ Ok v → 8 * length v.items ≤ length bytes
+results_few bytes v fits e =
+    let is = results_found v bytes fits e in
+    omega (arith, ap length is.spelled, length-append (word (number_of v.status)) (opaque v.tag ++ (word (length v.items) ++ is.rows)), length-append (opaque v.tag) (word (length v.items) ++ is.rows), length-append (word (length v.items)) is.rows, rows_long v.items is.rows is.each)

@@ -1,5 +1,5 @@
 -- The numbers of statuses are read as they are written.
-use Rattle.std.proofs.Common.{◌≡◌, ℕ, ◌^◌, ◌<◌, Bool, true, false, cond, eqb, List, [], ◌∷◌, Option, Some, None, refl, sym, ap, ◌∙◌, arith}
+use Rattle.std.proofs.Common.{◌≡◌, ℕ, ◌^◌, ◌<◌, Bool, true, false, cond, eqb, List, [], ◌∷◌, Some, refl, sym, ap, ◌∙◌, arith}
 use Rattle.std.proofs.lemmas.Bool.{eqb-true}
 use Rattle.std.specs.Prelude.{find}
 use Rattle.nm_xdr.specs.Fields.{IsItem}
@@ -11,7 +11,7 @@ use Rattle.nm_types.specs.Statuses.{number_of, statuses, status_of}
 use Rattle.nm_results.specs.Results.{status_at}
 
 -- what is found passes the test
-find_true : {X : Type 0} (p : X → Bool) (xs : List X) (x : X) → find p xs ≡ Some x → p x ≡ true
+pub find_true : {X : Type 0} (p : X → Bool) (xs : List X) (x : X) → find p xs ≡ Some x → p x ≡ true
 find_true p [] x e = absurd cc
 find_true {X} p (y ∷ ys) x e = by (p y) refl e (find_true p ys x)
   where

@@ -1,17 +1,18 @@
 -- The reading of values, and the bytes that are values, belong together.
-use Rattle.std.proofs.Common.{◌≡◌, ℕ, ◌+◌, ◌^◌, ◌≤◌, ◌<◌, List, [], ◌∷◌, ◌++◌, length, Result, Ok, Err, refl, sym, ap, subst, ◌∙◌, arith}
+use Rattle.std.proofs.Common.{◌≡◌, ℕ, List, [], ◌++◌, Result, Ok, refl, sym, ap, subst, ◌∙◌, arith}
 use Rattle.nm_xdr.specs.Fields.{Fault, Reading, ◌>>=◌, field, made, IsBytes, IsItem}
 use Rattle.nm_xdr.proofs.FieldLaws.{bind_ok, same_value}
-use Rattle.nm_xdr.proofs.ItemLaws.{hyper_item, opaque_item}
-use Rattle.nm_attrs.proofs.MadeLaws.{made_again}
-use Rattle.nm_attrs.proofs.ValueLaws.{bitmap_item}
+use Rattle.nm_xdr.proofs.ByteLaws.{bytes_item}
+use Rattle.nm_xdr.proofs.ItemLaws.{hyper_item}
+use Rattle.nm_xdr.proofs.MadeLaws.{made_again}
+use Rattle.nm_items.proofs.PartItems.{stateid_item, bitmap_item, fattr_item}
 use Rattle.nm_results.specs.declared.arms.Arm.{Arm}
 use Rattle.nm_results.specs.declared.arms.Arm.TheVariants as arm
 use Rattle.nm_results.specs.declared.values.ResultValue.{ResultValue}
 use Rattle.nm_results.specs.declared.values.ResultValue.TheVariants as value
 use Rattle.nm_results.specs.Values.{arm_with, value_at, Keeps, Spells, IsSpelling}
 use Rattle.nm_results.proofs.KeepLaws.{KeepsItem}
-use Rattle.nm_results.proofs.PartLaws.{bytes_item, stateid_item, change_item, fattr_item, access_item, read_item, write_item, client_item, address_item, denied_item}
+use Rattle.nm_results.proofs.PartLaws.{change_item, access_item, read_item, write_item, client_item, address_item, denied_item}
 use Rattle.nm_results.proofs.OpenLaws.{open_item}
 use Rattle.nm_results.proofs.DirLaws.{create_item, dir_item}
 

@@ -1,5 +1,5 @@
 -- What is written of results is these results.
-use Rattle.std.proofs.Common.{◌≡◌, ℕ, ◌+◌, ◌^◌, ◌≤◌, ◌<◌, List, [], ◌∷◌, ◌++◌, length, All, Ok, refl, sym, ap, subst, ◌∙◌, arith}
+use Rattle.std.proofs.Common.{◌≡◌, ℕ, ◌≤◌, List, [], ◌∷◌, ◌++◌, length, Ok, refl, ap, subst, arith}
 use Rattle.std.proofs.lemmas.List.{append-nil}
 use Rattle.std.proofs.lemmas.List.Elements.{All-from_recursion, recursion_from_All}
 use Rattle.std.specs.List.{AllByRecursion, flat_map}
@@ -14,10 +14,9 @@ use Rattle.nm_results.specs.declared.values.ResultValue.{ResultValue}
 use Rattle.nm_results.specs.declared.values.ResultValue.TheVariants as value
 use Rattle.nm_results.specs.declared.values.OpResult.{OpResult}
 use Rattle.nm_results.specs.declared.values.Results.{Results}
-use Rattle.nm_results.specs.declared.values.LockDenied.{LockDenied}
-use Rattle.nm_results.specs.Opens.{AnyDelegation, none, reads, writes, IsAnyDelegation, delegation_of, IsDelegation, written_delegation, AnyOpen, IsAnyOpen, IsOpen, open_of, open_bytes, written_open}
-use Rattle.nm_results.specs.Locks.{AnyDenied, IsAnyDenied, IsDenied, denied, denied_of, number_of_kind, kind_of_number, written_denied}
-use Rattle.nm_results.specs.Values.{value_bytes, IsValue, Keeps, IsSpelling}
+use Rattle.nm_results.specs.Opens.{AnyDelegation, none, reads, writes, IsAnyDelegation, delegation_of, IsDelegation, written_delegation, written_open}
+use Rattle.nm_results.specs.Locks.{number_of_kind, kind_of_number, written_denied}
+use Rattle.nm_results.specs.Values.{value_bytes, IsValue, IsSpelling}
 use Rattle.nm_results.specs.Results.{results_of, result_bytes, results_bytes, IsOpResult, AreResults, IsResult, AreRows, IsResults}
 use Rattle.nm_results.proofs.ResultLaws.{results_found}
 

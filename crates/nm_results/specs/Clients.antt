@@ -1,10 +1,9 @@
 -- The values of SETCLIENTID (RFC 7531, SETCLIENTID4resok and clientaddr4).
-use Rattle.std.specs.Prelude.{ℕ, ◌^◌, ◌<◌, ◌≤◌, List, [], ◌∷◌, ◌++◌, length}
-use Rattle.nm_xdr.specs.Fields.{Reading, ◌>>=◌, field, made}
-use Rattle.nm_xdr.specs.Items.{hyper, opaque, structure, hyper_at}
+use Rattle.std.specs.Prelude.{ℕ, ◌^◌, ◌<◌, ◌≤◌, List, [], ◌∷◌, length}
+use Rattle.nm_xdr.specs.Fields.{Reading, field, made}
+use Rattle.nm_xdr.specs.Items.{hyper, opaque, structure, hyper_at, bytes_at}
 use Rattle.nm_results.specs.declared.values.SetClientIdOk.{SetClientIdOk}
 use Rattle.nm_results.specs.declared.values.ClientAddress.{ClientAddress}
-use Rattle.nm_results.specs.Parts.{bytes_at}
 
 unfoldable pub client : SetClientIdOk → List ℕ
 client c = structure (hyper c.clientid ∷ hyper c.confirm ∷ [])

@@ -1,11 +1,10 @@
 -- The values of ACCESS, READ and WRITE (RFC 7531, ACCESS4resok, READ4resok, WRITE4resok).
-use Rattle.std.specs.Prelude.{ℕ, ◌^◌, ◌<◌, ◌≤◌, List, [], ◌∷◌, ◌++◌, length}
-use Rattle.nm_xdr.specs.Fields.{Reading, ◌>>=◌, field, made}
-use Rattle.nm_xdr.specs.Items.{word, hyper, flag, opaque, structure, word_at, hyper_at, flag_at}
+use Rattle.std.specs.Prelude.{ℕ, ◌^◌, ◌<◌, ◌≤◌, List, [], ◌∷◌, length}
+use Rattle.nm_xdr.specs.Fields.{Reading, field, made}
+use Rattle.nm_xdr.specs.Items.{word, hyper, flag, opaque, structure, word_at, hyper_at, flag_at, bytes_at}
 use Rattle.nm_types.specs.declared.results.AccessOk.{AccessOk}
 use Rattle.nm_types.specs.declared.results.ReadOk.{ReadOk}
 use Rattle.nm_types.specs.declared.results.WriteOk.{WriteOk}
-use Rattle.nm_results.specs.Parts.{bytes_at}
 
 unfoldable pub access : AccessOk → List ℕ
 access a = structure (word a.supported ∷ word a.access ∷ [])

@@ -1,13 +1,13 @@
 -- The values of CREATE and READDIR (RFC 7531, CREATE4resok, READDIR4resok).
-use Rattle.std.specs.Prelude.{ℕ, zero, suc, ◌^◌, ◌<◌, ◌≤◌, Bool, true, false, List, [], ◌∷◌, ◌++◌, length, All, Option, Some, None, Result, Ok}
+use Rattle.std.specs.Prelude.{ℕ, zero, suc, ◌^◌, ◌<◌, ◌≤◌, true, false, List, [], ◌∷◌, ◌++◌, length, All, Option, Some, None, Result, Ok}
 use Rattle.std.specs.List.{flat_map}
 use Rattle.nm_xdr.specs.Fields.{short, Fault, Reading, ◌>>=◌, fault_at, field, made}
-use Rattle.nm_xdr.specs.Items.{hyper, flag, opaque, structure, hyper_at, flag_at, optional_at}
-use Rattle.nm_attrs.specs.Bitmaps.{bitmap, bitmap_at, IsBitmap}
+use Rattle.nm_xdr.specs.Items.{hyper, flag, opaque, structure, hyper_at, flag_at, bytes_at, optional_at}
+use Rattle.nm_items.specs.Parts.{bitmap, bitmap_at, IsBitmap, fattr, fattr_at, AreAttributes}
 use Rattle.nm_types.specs.declared.results.CreateOk.{CreateOk}
 use Rattle.nm_results.specs.declared.values.DirEntry.{DirEntry}
 use Rattle.nm_results.specs.declared.values.ReadDirOk.{ReadDirOk}
-use Rattle.nm_results.specs.Parts.{bytes_at, AnyChange, change, change_at, IsChange, written_change, fattr, fattr_at, IsFattr}
+use Rattle.nm_results.specs.Parts.{AnyChange, change, change_at, IsChange, written_change}
 
 -- ---- CREATE
 
@@ -48,7 +48,7 @@ entry_at = field hyper_at (λ c. field (bytes_at 1048576) (λ n. field fattr_at 
 pub record IsEntry (e : DirEntry) : Type 0 where
   pub cookie : e.cookie < 2 ^ 64
   pub name : length e.name ≤ 1048576
-  pub attrs : IsFattr e.attrs
+  pub attrs : AreAttributes e.attrs
 
 -- a flag before each entry that is true, and behind the last one that is false
 unfoldable pub entries : List DirEntry → List ℕ

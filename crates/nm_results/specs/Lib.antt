@@ -2,8 +2,14 @@ pub mod Arms
 pub mod Clients
 pub mod Contents
 pub mod Directories
+pub mod Holders
+pub mod Kept
+pub mod KeptLocks
+pub mod KeptOpens
+pub mod Lengths
 pub mod Locks
 pub mod Opens
 pub mod Parts
+pub mod ResultPlaces
 pub mod Results
 pub mod Values

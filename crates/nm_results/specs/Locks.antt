@@ -1,11 +1,10 @@
 -- The value of LOCK and LOCKT with DENIED (RFC 7531, LOCK4denied).
-use Rattle.std.specs.Prelude.{ℕ, ◌^◌, ◌<◌, ◌≤◌, ◌==◌, ◌||◌, List, [], ◌∷◌, ◌++◌, length, Option, Some, None, if◌then◌else◌}
-use Rattle.nm_xdr.specs.Fields.{Reading, ◌>>=◌, field, made}
-use Rattle.nm_xdr.specs.Items.{word, hyper, opaque, structure, word_at, hyper_at, enum_at}
+use Rattle.std.specs.Prelude.{ℕ, ◌^◌, ◌<◌, ◌≤◌, ◌==◌, ◌||◌, List, [], ◌∷◌, length, Option, Some, None, if◌then◌else◌}
+use Rattle.nm_xdr.specs.Fields.{Reading, field, made}
+use Rattle.nm_xdr.specs.Items.{word, hyper, opaque, structure, hyper_at, enum_at, bytes_at}
 use Rattle.nm_types.specs.declared.results.LockKind.{LockKind}
 use Rattle.nm_types.specs.declared.results.LockKind.TheVariants as kind
 use Rattle.nm_results.specs.declared.values.LockDenied.{LockDenied}
-use Rattle.nm_results.specs.Parts.{bytes_at}
 
 -- the numbers of kinds (nfs_lock_type4): 1 and 3 read, 2 and 4 write, and 3 and 4 tell that the asker waits
 unfoldable pub kind_numbered : ℕ → Option LockKind

@@ -1,14 +1,13 @@
 -- The value of OPEN (RFC 7531, OPEN4resok).
-use Rattle.std.specs.Prelude.{◌≡◌, ℕ, ◌^◌, ◌<◌, ◌≤◌, Bool, true, false, ◌==◌, nat_le, List, [], ◌∷◌, ◌++◌, length, if◌then◌else◌}
-use Rattle.nm_xdr.specs.Fields.{enum, Reading, ◌>>=◌, field, made, tested}
-use Rattle.nm_xdr.specs.Items.{word, hyper, flag, opaque, structure, union, word_at, hyper_at, flag_at}
-use Rattle.nm_attrs.specs.Bitmaps.{bitmap, bitmap_at, IsBitmap}
+use Rattle.std.specs.Prelude.{ℕ, ◌^◌, ◌<◌, ◌≤◌, Bool, false, ◌==◌, nat_le, List, [], ◌∷◌, length, if◌then◌else◌}
+use Rattle.nm_xdr.specs.Fields.{enum, Reading, field, made, tested}
+use Rattle.nm_xdr.specs.Items.{word, hyper, flag, opaque, structure, union, word_at, hyper_at, flag_at, bytes_at, only_at}
+use Rattle.nm_items.specs.Parts.{stateid, stateid_at, IsStateId, bitmap, bitmap_at, IsBitmap}
 use Rattle.nm_types.specs.declared.calls.StateId.{StateId}
-use Rattle.nm_types.specs.declared.results.ChangeInfo.{ChangeInfo}
 use Rattle.nm_types.specs.declared.results.OpenOk.{OpenOk}
 use Rattle.nm_types.specs.declared.results.OpenDelegation.{OpenDelegation}
 use Rattle.nm_types.specs.declared.results.OpenDelegation.TheVariants as delegation
-use Rattle.nm_results.specs.Parts.{bytes_at, stateid, stateid_at, IsStateId, AnyChange, change, change_at, IsChange, written_change}
+use Rattle.nm_results.specs.Parts.{AnyChange, change, change_at, IsChange, written_change}
 
 -- ---- Delegations (open_delegation4)
 
@@ -56,10 +55,6 @@ abbrev pub delegation_of : AnyDelegation → OpenDelegation
 delegation_of none = delegation.None
 delegation_of (reads s recall a) = delegation.Read s
 delegation_of (writes s recall size a) = delegation.Write s
-
--- a word that is this number
-unfoldable pub only_at : ℕ → Reading ℕ
-only_at number = tested (λ n. n == number) enum word_at
 
 unfoldable pub reads_at : Reading OpenDelegation
 reads_at = field stateid_at (λ s. field flag_at (λ recall. ace_behind (delegation.Read s)))

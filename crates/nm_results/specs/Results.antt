@@ -1,11 +1,10 @@
 -- Results (RFC 7530, 16; RFC 7531, COMPOUND4res): their layout, and what is read of any bytes.
-use Rattle.std.specs.Prelude.{◌≡◌, ℕ, ◌+◌, ◌-◌, ◌^◌, ◌<◌, ◌≤◌, true, List, [], ◌∷◌, ◌++◌, length, All, Option, Some, None, Result, Ok, Err}
-use Rattle.std.specs.List.{flat_map}
+use Rattle.std.specs.Prelude.{◌≡◌, ℕ, ◌-◌, ◌^◌, ◌<◌, ◌≤◌, true, List, [], ◌∷◌, ◌++◌, length, All, Option, Some, None, Result, Ok, Err}
 use Rattle.nm_xdr.specs.Fields.{enum, Fault, Reading, ◌>>=◌, fault_at, field, made, tested, all_of}
-use Rattle.nm_xdr.specs.Items.{word, opaque, counted, structure, word_at, counted_at, enum_at}
+use Rattle.nm_xdr.specs.Items.{word, opaque, counted, structure, word_at, counted_at, enum_at, bytes_at}
 use Rattle.nm_xdr.specs.Places.{place_of}
-use Rattle.nm_attrs.specs.declared.fault.ReadFault.{ReadFault}
-use Rattle.nm_attrs.specs.declared.fault.ReadFault.TheVariants as item
+use Rattle.nm_items.specs.declared.fault.ReadFault.{ReadFault}
+use Rattle.nm_items.specs.declared.fault.ReadFault.TheVariants as item
 use Rattle.nm_types.specs.declared.status.OpStatus.{OpStatus}
 use Rattle.nm_types.specs.Statuses.{number_of, status_of}
 use Rattle.nm_results.specs.declared.arms.Arm.{Arm}
@@ -15,7 +14,6 @@ use Rattle.nm_results.specs.declared.fault.ResultsFault.{ResultsFault}
 use Rattle.nm_results.specs.declared.fault.ResultsFault.TheVariants as fault
 use Rattle.nm_results.specs.Arms.{is_op, arm_of}
 use Rattle.nm_results.specs.Values.{arm_with, value_at, value_bytes, IsValue, IsSpelling}
-use Rattle.nm_results.specs.Parts.{bytes_at}
 
 -- ---- Reading
 

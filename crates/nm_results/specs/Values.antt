@@ -1,17 +1,17 @@
 -- The values of results: reading, the spelling that is written, and what bytes are a value.
-use Rattle.std.specs.Prelude.{◌≡◌, ℕ, ◌^◌, ◌<◌, ◌≤◌, List, [], ◌∷◌, ◌++◌, length}
-use Rattle.nm_xdr.specs.Fields.{Reading, ◌>>=◌, field, made}
-use Rattle.nm_xdr.specs.Items.{hyper, opaque, hyper_at}
-use Rattle.nm_attrs.specs.Bitmaps.{bitmap, bitmap_at, IsBitmap}
+use Rattle.std.specs.Prelude.{◌≡◌, ℕ, ◌^◌, ◌<◌, ◌≤◌, List, [], length}
+use Rattle.nm_xdr.specs.Fields.{Reading, field, made}
+use Rattle.nm_xdr.specs.Items.{hyper, opaque, hyper_at, bytes_at}
+use Rattle.nm_items.specs.Parts.{stateid, stateid_at, IsStateId, bitmap, bitmap_at, IsBitmap, fattr, fattr_at, AreAttributes}
 use Rattle.nm_results.specs.declared.arms.Arm.{Arm}
 use Rattle.nm_results.specs.declared.arms.Arm.TheVariants as arm
 use Rattle.nm_results.specs.declared.values.ResultValue.{ResultValue}
 use Rattle.nm_results.specs.declared.values.ResultValue.TheVariants as value
-use Rattle.nm_results.specs.Parts.{bytes_at, stateid, stateid_at, IsStateId, AnyChange, change, change_at, IsChange, written_change, fattr, fattr_at, IsFattr}
-use Rattle.nm_results.specs.Opens.{AnyOpen, open_bytes, open_at, open_of, written_open, IsAnyOpen, IsOpen}
-use Rattle.nm_results.specs.Locks.{AnyDenied, denied, denied_at, denied_of, written_denied, IsAnyDenied, IsDenied}
+use Rattle.nm_results.specs.Parts.{change, change_at, IsChange, written_change}
+use Rattle.nm_results.specs.Opens.{open_bytes, open_at, open_of, written_open, IsAnyOpen, IsOpen}
+use Rattle.nm_results.specs.Locks.{denied, denied_at, denied_of, written_denied, IsAnyDenied, IsDenied}
 use Rattle.nm_results.specs.Contents.{access, access_at, IsAccess, read_bytes, read_at, IsRead, write_bytes, write_at, IsWrite}
-use Rattle.nm_results.specs.Directories.{AnyCreate, create, create_at, create_of, written_create, IsAnyCreate, IsCreate, dir_bytes, dir_at, IsDir}
+use Rattle.nm_results.specs.Directories.{create, create_at, create_of, written_create, IsAnyCreate, IsCreate, dir_bytes, dir_at, IsDir}
 use Rattle.nm_results.specs.Clients.{client, client_at, IsClient, address, address_at, IsAddress}
 
 -- which value this is
@@ -93,7 +93,7 @@ IsValue (value.Access a) = IsAccess a
 IsValue (value.Close s) = IsStateId s
 IsValue (value.Commit v) = v < 2 ^ 64
 IsValue (value.Create c) = IsCreate c
-IsValue (value.GetAttr a) = IsFattr a
+IsValue (value.GetAttr a) = AreAttributes a
 IsValue (value.GetFh h) = length h ≤ 128
 IsValue (value.Lock s) = IsStateId s
 IsValue (value.Denied d) = IsDenied d
@@ -129,7 +129,7 @@ IsSpelling (value.Access a) bytes = Spells access IsAccess a bytes
 IsSpelling (value.Close s) bytes = Spells stateid IsStateId s bytes
 IsSpelling (value.Commit v) bytes = Spells hyper (λ n. n < 2 ^ 64) v bytes
 IsSpelling (value.Create c) bytes = Keeps create_of create IsAnyCreate c bytes
-IsSpelling (value.GetAttr a) bytes = Spells fattr IsFattr a bytes
+IsSpelling (value.GetAttr a) bytes = Spells fattr AreAttributes a bytes
 IsSpelling (value.GetFh h) bytes = Spells opaque (λ b. length b ≤ 128) h bytes
 IsSpelling (value.Lock s) bytes = Spells stateid IsStateId s bytes
 IsSpelling (value.Denied d) bytes = Keeps denied_of denied IsAnyDenied d bytes

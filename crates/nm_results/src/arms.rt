@@ -5,7 +5,7 @@ ghost use Rattle.nm_results.specs.Arms.{is_op, ok_arm, failed_arm, denied_arm, i
 use nm_types::OpStatus;
 
 /// The values of results, by their kinds.
-#[derive(Clone, Copy)]
+#[derive(Clone, Copy, PartialEq, Eq)]
 pub enum Arm {
     Nothing,
     Access,

@@ -1,12 +1,11 @@
 //! The values of SETCLIENTID.
-ghost use Rattle.std.specs.Prelude.{◌≡◌, ◌++◌, OnOk};
-ghost use Rattle.nm_xdr.specs.Places.{Gives};
-ghost use Rattle.nm_attrs.specs.Takes.{Takes};
+ghost use Rattle.std.specs.Prelude.{◌≡◌, ◌++◌};
+ghost use Rattle.nm_xdr.specs.Places.{Gives, Puts};
+ghost use Rattle.nm_items.specs.Takes.{Takes};
 ghost use Rattle.nm_results.specs.Clients.{client_at, client, address_at, address, IsAddress};
 
-use crate::parts::take_bytes;
 use crate::{ClientAddress, SetClientIdOk};
-use nm_attrs::ReadFault;
+use nm_items::{ReadFault, take_kept};
 use nm_xdr::{Cursor, Memory, Writer, XdrFault};
 use std::alloc::Global;
 
@@ -21,9 +20,9 @@ pub(crate) fn take_client(cursor: &mut Cursor<'_>) -> Result<SetClientIdOk, XdrF
 }
 
 /// Puts the value of SETCLIENTID.
-#[tactic(auto, unfolding(crate::specs::Clients::client))]
+#[tactic(auto, using(nm_xdr::proofs::PutLaws::front_there, nm_xdr::proofs::PutLaws::front_stands), unfolding(crate::specs::Clients::client))]
 pub(crate) fn put_client(writer: &mut Writer, value: &SetClientIdOk) -> Result<(), Memory>
-    ensures { OnOk result (writer.new ≡ writer.old ++ client value.now) }
+    ensures { Puts writer.old (client value.now) result writer.new }
 {
     writer.put_u64(value.clientid)?;
     writer.put_u64(value.confirm)
@@ -37,16 +36,16 @@ pub(crate) fn take_address(
 ) -> Result<ClientAddress, ReadFault>
     ensures { Takes address_at cursor.old result cursor.new }
 {
-    let netid = take_bytes(alloc, cursor, 1024)?;
-    let addr = take_bytes(alloc, cursor, 1024)?;
+    let netid = take_kept(alloc, cursor, 1024)?;
+    let addr = take_kept(alloc, cursor, 1024)?;
     Ok(ClientAddress { netid, addr })
 }
 
 /// Puts that address.
-#[tactic(auto, unfolding(crate::specs::Clients::address))]
+#[tactic(auto, using(nm_xdr::proofs::PutLaws::front_there, nm_xdr::proofs::PutLaws::front_stands), unfolding(crate::specs::Clients::address))]
 pub(crate) fn put_address(writer: &mut Writer, value: &ClientAddress) -> Result<(), Memory>
     requires { IsAddress value.now }
-    ensures { OnOk result (writer.new ≡ writer.old ++ address value.now) }
+    ensures { Puts writer.old (address value.now) result writer.new }
 {
     writer.put_opaque(value.netid.items())?;
     writer.put_opaque(value.addr.items())

@@ -1,11 +1,10 @@
 //! The values of ACCESS, READ and WRITE.
-ghost use Rattle.std.specs.Prelude.{◌≡◌, ◌++◌, OnOk};
-ghost use Rattle.nm_xdr.specs.Places.{Gives};
-ghost use Rattle.nm_attrs.specs.Takes.{Takes};
+ghost use Rattle.std.specs.Prelude.{◌≡◌, ◌++◌};
+ghost use Rattle.nm_xdr.specs.Places.{Gives, Puts};
+ghost use Rattle.nm_items.specs.Takes.{Takes};
 ghost use Rattle.nm_results.specs.Contents.{access_at, access, read_at, read_bytes, IsRead, write_at, write_bytes};
 
-use crate::parts::take_bytes;
-use nm_attrs::ReadFault;
+use nm_items::{ReadFault, take_kept};
 use nm_types::{AccessOk, ReadOk, WriteOk};
 use nm_xdr::{Cursor, Memory, Writer, XdrFault};
 use std::alloc::Global;
@@ -21,9 +20,9 @@ pub(crate) fn take_access(cursor: &mut Cursor<'_>) -> Result<AccessOk, XdrFault>
 }
 
 /// Puts the value of ACCESS.
-#[tactic(auto, unfolding(crate::specs::Contents::access))]
+#[tactic(auto, using(nm_xdr::proofs::PutLaws::front_there, nm_xdr::proofs::PutLaws::front_stands), unfolding(crate::specs::Contents::access))]
 pub(crate) fn put_access(writer: &mut Writer, value: &AccessOk) -> Result<(), Memory>
-    ensures { OnOk result (writer.new ≡ writer.old ++ access value.now) }
+    ensures { Puts writer.old (access value.now) result writer.new }
 {
     writer.put_u32(value.supported)?;
     writer.put_u32(value.access)
@@ -35,15 +34,15 @@ pub(crate) fn take_read(alloc: Global, cursor: &mut Cursor<'_>) -> Result<ReadOk
     ensures { Takes read_at cursor.old result cursor.new }
 {
     let eof = cursor.take_bool()?;
-    let data = take_bytes(alloc, cursor, 65_536)?;
+    let data = take_kept(alloc, cursor, 65_536)?;
     Ok(ReadOk { eof, data })
 }
 
 /// Puts the value of READ.
-#[tactic(auto, unfolding(crate::specs::Contents::read_bytes))]
+#[tactic(auto, using(nm_xdr::proofs::PutLaws::front_there, nm_xdr::proofs::PutLaws::front_stands), unfolding(crate::specs::Contents::read_bytes))]
 pub(crate) fn put_read(writer: &mut Writer, value: &ReadOk) -> Result<(), Memory>
     requires { IsRead value.now }
-    ensures { OnOk result (writer.new ≡ writer.old ++ read_bytes value.now) }
+    ensures { Puts writer.old (read_bytes value.now) result writer.new }
 {
     writer.put_bool(value.eof)?;
     writer.put_opaque(value.data.items())
@@ -65,9 +64,9 @@ pub(crate) fn take_write(cursor: &mut Cursor<'_>) -> Result<WriteOk, XdrFault>
 }
 
 /// Puts the value of WRITE.
-#[tactic(auto, unfolding(crate::specs::Contents::write_bytes))]
+#[tactic(auto, using(nm_xdr::proofs::PutLaws::front_there, nm_xdr::proofs::PutLaws::front_stands), unfolding(crate::specs::Contents::write_bytes))]
 pub(crate) fn put_write(writer: &mut Writer, value: &WriteOk) -> Result<(), Memory>
-    ensures { OnOk result (writer.new ≡ writer.old ++ write_bytes value.now) }
+    ensures { Puts writer.old (write_bytes value.now) result writer.new }
 {
     writer.put_u32(value.count)?;
     writer.put_u32(value.committed)?;

@@ -1,13 +1,14 @@
 //! The values of CREATE and READDIR.
-ghost use Rattle.std.specs.Prelude.{◌≡◌, ◌++◌, All, [], true, OnOk};
+ghost use Rattle.std.specs.Prelude.{◌≡◌, ◌++◌, All, [], true};
 ghost use Rattle.std.specs.List.{flat_map};
 ghost use Rattle.nm_xdr.specs.Items.{flag, optional_at};
-ghost use Rattle.nm_attrs.specs.Takes.{Takes};
+ghost use Rattle.nm_xdr.specs.Places.{Puts};
+ghost use Rattle.nm_items.specs.Takes.{Takes};
 ghost use Rattle.nm_results.specs.Directories.{create_at, create, written_create, IsCreate, entry_at, entry, entries_at, all_entries_at, entries, IsEntry, dir_at, dir_bytes, IsDir};
 
-use crate::parts::{put_change, put_fattr, take_bytes, take_change, take_fattr, take_words};
+use crate::parts::{put_change, take_change};
 use crate::{DirEntries, DirEntry, ReadDirOk};
-use nm_attrs::{ReadFault, put_bitmap};
+use nm_items::{ReadFault, put_fattr, take_fattr, take_kept, take_words};
 use nm_types::CreateOk;
 use nm_xdr::{Cursor, Memory, Writer, XdrFault};
 use std::alloc::Global;
@@ -18,18 +19,18 @@ pub(crate) fn take_create(alloc: Global, cursor: &mut Cursor<'_>) -> Result<Crea
     ensures { Takes create_at cursor.old result cursor.new }
 {
     let cinfo = take_change(cursor)?;
-    let attrset = take_words(alloc, cursor)?;
+    let attrset = take_words(alloc, cursor, 8)?;
     Ok(CreateOk { cinfo, attrset })
 }
 
 /// Puts the value of CREATE.
-#[tactic(auto, unfolding(crate::specs::Directories::create))]
+#[tactic(auto, using(nm_xdr::proofs::PutLaws::front_there, nm_xdr::proofs::PutLaws::front_stands), unfolding(crate::specs::Directories::create))]
 pub(crate) fn put_create(writer: &mut Writer, value: &CreateOk) -> Result<(), Memory>
     requires { IsCreate value.now }
-    ensures { OnOk result (writer.new ≡ writer.old ++ create (written_create value.now)) }
+    ensures { Puts writer.old (create (written_create value.now)) result writer.new }
 {
     put_change(writer, &value.cinfo)?;
-    put_bitmap(writer, value.attrset.items())
+    writer.put_words(value.attrset.items())
 }
 
 /// Takes the value of READDIR.
@@ -91,7 +92,7 @@ fn take_entry(alloc: Global, cursor: &mut Cursor<'_>) -> Result<DirEntry, ReadFa
     ensures { Takes entry_at cursor.old result cursor.new }
 {
     let cookie = cursor.take_u64()?;
-    let name = take_bytes(alloc, cursor, 1_048_576)?;
+    let name = take_kept(alloc, cursor, 1_048_576)?;
     let attrs = take_fattr(alloc, cursor)?;
     Ok(DirEntry {
         cookie,
@@ -101,10 +102,10 @@ fn take_entry(alloc: Global, cursor: &mut Cursor<'_>) -> Result<DirEntry, ReadFa
 }
 
 /// Puts the value of READDIR.
-#[tactic(auto, unfolding(crate::specs::Directories::dir_bytes, crate::specs::Directories::entries))]
+#[tactic(auto, using(nm_xdr::proofs::PutLaws::front_there, nm_xdr::proofs::PutLaws::front_stands), unfolding(crate::specs::Directories::dir_bytes, crate::specs::Directories::entries))]
 pub(crate) fn put_dir(writer: &mut Writer, value: &ReadDirOk) -> Result<(), Memory>
     requires { IsDir value.now }
-    ensures { OnOk result (writer.new ≡ writer.old ++ dir_bytes value.now) }
+    ensures { Puts writer.old (dir_bytes value.now) result writer.new }
 {
     writer.put_u64(value.cookieverf)?;
     put_entries(writer, value.entries.items())?;
@@ -113,9 +114,10 @@ pub(crate) fn put_dir(writer: &mut Writer, value: &ReadDirOk) -> Result<(), Memo
 }
 
 // Entries, each behind a flag that is true.
+#[tactic(auto, using(nm_xdr::proofs::PutLaws::front_there, nm_xdr::proofs::PutLaws::front_stands))]
 fn put_entries(writer: &mut Writer, entries: &[DirEntry]) -> Result<(), Memory>
     requires { All IsEntry entries.now }
-    ensures { OnOk result (writer.new ≡ writer.old ++ flat_map (λ e. flag true ++ entry e) entries.now) }
+    ensures { Puts writer.old (flat_map (λ e. flag true ++ entry e) entries.now) result writer.new }
 {
     for entry in entries {
         put_entry(writer, entry)?;
@@ -123,10 +125,10 @@ fn put_entries(writer: &mut Writer, entries: &[DirEntry]) -> Result<(), Memory>
     Ok(())
 }
 
-#[tactic(auto, unfolding(crate::specs::Directories::entry))]
+#[tactic(auto, using(nm_xdr::proofs::PutLaws::front_there, nm_xdr::proofs::PutLaws::front_stands), unfolding(crate::specs::Directories::entry))]
 fn put_entry(writer: &mut Writer, value: &DirEntry) -> Result<(), Memory>
     requires { IsEntry value.now }
-    ensures { OnOk result (writer.new ≡ writer.old ++ (flag true ++ entry value.now)) }
+    ensures { Puts writer.old (flag true ++ entry value.now) result writer.new }
 {
     writer.put_bool(true)?;
     writer.put_u64(value.cookie)?;

@@ -1,9 +1,7 @@
 //! Why bytes aren't results.
 ghost use Rattle.std.specs.Prelude.{◌≡◌};
-ghost use Rattle.nm_xdr.specs.Places.{place_of};
 
-use nm_attrs::ReadFault;
-use nm_xdr::XdrFault;
+use nm_items::ReadFault;
 
 /// Why results aren't read.
 #[derive(Clone, Copy, Debug)]
@@ -24,23 +22,8 @@ impl From<ReadFault> for ResultsFault {
 
     fn from(fault: ReadFault) -> Self {
         match fault {
-            ReadFault::Xdr(fault) => ResultsFault::At {
-                at: place_of(fault),
-            },
+            ReadFault::Xdr(fault) => ResultsFault::At { at: fault.place() },
             ReadFault::Memory => ResultsFault::Memory,
         }
-    }
-}
-
-// The place that a fault tells.
-fn place_of(fault: XdrFault) -> usize
-    ensures { result ≡ place_of fault }
-{
-    match fault {
-        XdrFault::Short { at } => at,
-        XdrFault::Padding { at } => at,
-        XdrFault::Bool { at, .. } => at,
-        XdrFault::TooLong { at, .. } => at,
-        XdrFault::Enum { at, .. } => at,
     }
 }

@@ -1,13 +1,12 @@
 //! The value of LOCK and LOCKT with DENIED.
-ghost use Rattle.std.specs.Prelude.{◌≡◌, ◌++◌, OnOk};
+ghost use Rattle.std.specs.Prelude.{◌≡◌, ◌++◌};
 ghost use Rattle.nm_xdr.specs.Items.{word};
-ghost use Rattle.nm_xdr.specs.Places.{Gives};
-ghost use Rattle.nm_attrs.specs.Takes.{Takes};
+ghost use Rattle.nm_xdr.specs.Places.{Gives, Puts};
+ghost use Rattle.nm_items.specs.Takes.{Takes};
 ghost use Rattle.nm_results.specs.Locks.{kind_numbered, lock_kind_at, number_of_kind, denied_at, denied, written_denied, IsDenied};
 
 use crate::LockDenied;
-use crate::parts::take_bytes;
-use nm_attrs::ReadFault;
+use nm_items::{ReadFault, take_kept};
 use nm_types::LockKind;
 use nm_xdr::{Cursor, Memory, Writer, XdrFault};
 use std::alloc::Global;
@@ -21,7 +20,7 @@ pub(crate) fn take_denied(alloc: Global, cursor: &mut Cursor<'_>) -> Result<Lock
     let length = cursor.take_u64()?;
     let kind = take_lock_kind(cursor)?;
     let clientid = cursor.take_u64()?;
-    let owner = take_bytes(alloc, cursor, 1024)?;
+    let owner = take_kept(alloc, cursor, 1024)?;
     Ok(LockDenied {
         offset,
         length,
@@ -56,10 +55,10 @@ fn kind_numbered(number: u32) -> Option<LockKind>
 }
 
 /// Puts the lock that is in the way.
-#[tactic(auto, unfolding(crate::specs::Locks::denied))]
+#[tactic(auto, using(nm_xdr::proofs::PutLaws::front_there, nm_xdr::proofs::PutLaws::front_stands), unfolding(crate::specs::Locks::denied))]
 pub(crate) fn put_denied(writer: &mut Writer, value: &LockDenied) -> Result<(), Memory>
     requires { IsDenied value.now }
-    ensures { OnOk result (writer.new ≡ writer.old ++ denied (written_denied value.now)) }
+    ensures { Puts writer.old (denied (written_denied value.now)) result writer.new }
 {
     writer.put_u64(value.offset)?;
     writer.put_u64(value.length)?;
@@ -68,7 +67,8 @@ pub(crate) fn put_denied(writer: &mut Writer, value: &LockDenied) -> Result<(), 
     writer.put_opaque(value.owner.items())
 }
 
-fn number_of_kind(kind: LockKind) -> u32
+/// The number that is written for a kind.
+pub(crate) fn number_of_kind(kind: LockKind) -> u32
     ensures { result ≡ number_of_kind kind }
 {
     match kind {

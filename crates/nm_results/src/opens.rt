@@ -1,18 +1,18 @@
 //! The value of OPEN.
-ghost use Rattle.std.specs.Prelude.{◌≡◌, ◌++◌, ◌==◌, nat_le, OnOk};
-ghost use Rattle.nm_xdr.specs.Places.{Gives};
+ghost use Rattle.std.specs.Prelude.{◌≡◌, ◌++◌, ◌==◌, nat_le};
+ghost use Rattle.nm_xdr.specs.Places.{Gives, Puts};
 ghost use Rattle.nm_types.specs.declared.results.OpenDelegation.TheVariants as delegation;
-ghost use Rattle.nm_attrs.specs.Takes.{Takes};
-ghost use Rattle.nm_results.specs.Opens.{ace_behind, delegation_bytes, only_at, reads_at, writes_at, kind_at, delegation_as, delegation_at, written_delegation, ace, no_ace, open_at, open_bytes, written_open, IsOpen};
+ghost use Rattle.nm_items.specs.Takes.{Takes};
+ghost use Rattle.nm_results.specs.Opens.{ace_behind, delegation_bytes, reads_at, writes_at, kind_at, delegation_as, delegation_at, written_delegation, ace, no_ace, open_at, open_bytes, written_open, IsOpen};
 
-use crate::parts::{put_change, put_stateid, take_change, take_slice, take_stateid, take_words};
-use nm_attrs::{ReadFault, put_bitmap};
+use crate::parts::{put_change, take_change};
+use nm_items::{ReadFault, put_stateid, take_stateid, take_words};
 use nm_types::{OpenDelegation, OpenOk, StateId};
 use nm_xdr::{Cursor, Memory, Writer, XdrFault};
 use std::alloc::Global;
 
 /// How far a file may grow that a delegation for writing is written for, in bytes.
-const SIZE_LIMIT: u64 = 1_048_576;
+pub(crate) const SIZE_LIMIT: u64 = 1_048_576;
 
 /// Takes the value of OPEN.
 #[tactic(auto, unfolding(crate::specs::Opens::open_at))]
@@ -22,7 +22,7 @@ pub(crate) fn take_open(alloc: Global, cursor: &mut Cursor<'_>) -> Result<OpenOk
     let stateid = take_stateid(cursor)?;
     let cinfo = take_change(cursor)?;
     let rflags = cursor.take_u32()?;
-    let attrset = take_words(alloc, cursor)?;
+    let attrset = take_words(alloc, cursor, 8)?;
     let delegation = take_delegation(cursor)?;
     Ok(OpenOk {
         stateid,
@@ -41,9 +41,9 @@ fn take_delegation(cursor: &mut Cursor<'_>) -> Result<OpenDelegation, XdrFault>
     take_delegation_of(cursor, kind)
 }
 
-// Takes the number of a kind of delegation.
+/// Takes the number of a kind of delegation.
 #[tactic(auto, unfolding(crate::specs::Opens::kind_at))]
-fn take_kind(cursor: &mut Cursor<'_>) -> Result<u32, XdrFault>
+pub(crate) fn take_kind(cursor: &mut Cursor<'_>) -> Result<u32, XdrFault>
     ensures { Gives (λ n. n) kind_at cursor.old result cursor.new }
 {
     let at = cursor.place();
@@ -82,22 +82,9 @@ fn take_writing(cursor: &mut Cursor<'_>) -> Result<OpenDelegation, XdrFault>
 {
     let stateid = take_stateid(cursor)?;
     cursor.take_bool()?;
-    take_only(cursor, 1)?;
+    cursor.take_only(1)?;
     cursor.take_u64()?;
     pass_ace(cursor, OpenDelegation::Write(stateid))
-}
-
-// Takes a word that is this number.
-#[tactic(auto, unfolding(crate::specs::Opens::only_at))]
-fn take_only(cursor: &mut Cursor<'_>, number: u32) -> Result<u32, XdrFault>
-    ensures { Gives (λ n. n) (only_at number) cursor.old result cursor.new }
-{
-    let at = cursor.place();
-    let got = cursor.take_u32()?;
-    if got != number {
-        return Err(XdrFault::Enum { at, got });
-    }
-    Ok(got)
 }
 
 // Passes over an ace, and answers the delegation that it belongs to.
@@ -108,26 +95,27 @@ fn pass_ace(cursor: &mut Cursor<'_>, delegation: OpenDelegation) -> Result<OpenD
     cursor.take_u32()?;
     cursor.take_u32()?;
     cursor.take_u32()?;
-    take_slice(cursor, 1024)?;
+    cursor.take_bytes(1024)?;
     Ok(delegation)
 }
 
 /// Puts the value of OPEN.
-#[tactic(auto, unfolding(crate::specs::Opens::open_bytes))]
+#[tactic(auto, using(nm_xdr::proofs::PutLaws::front_there, nm_xdr::proofs::PutLaws::front_stands), unfolding(crate::specs::Opens::open_bytes))]
 pub(crate) fn put_open(writer: &mut Writer, value: &OpenOk) -> Result<(), Memory>
     requires { IsOpen value.now }
-    ensures { OnOk result (writer.new ≡ writer.old ++ open_bytes (written_open value.now)) }
+    ensures { Puts writer.old (open_bytes (written_open value.now)) result writer.new }
 {
-    put_stateid(writer, &value.stateid)?;
+    put_stateid(writer, value.stateid)?;
     put_change(writer, &value.cinfo)?;
     writer.put_u32(value.rflags)?;
-    put_bitmap(writer, value.attrset.items())?;
-    put_delegation(writer, &value.delegation)
+    writer.put_words(value.attrset.items())?;
+    put_delegation(writer, &value.delegation)?;
+    Ok(())
 }
 
-#[tactic(auto, unfolding(crate::specs::Opens::delegation_bytes))]
+#[tactic(auto, using(nm_xdr::proofs::PutLaws::front_there, nm_xdr::proofs::PutLaws::front_stands), unfolding(crate::specs::Opens::delegation_bytes))]
 fn put_delegation(writer: &mut Writer, value: &OpenDelegation) -> Result<(), Memory>
-    ensures { OnOk result (writer.new ≡ writer.old ++ delegation_bytes (written_delegation value.now)) }
+    ensures { Puts writer.old (delegation_bytes (written_delegation value.now)) result writer.new }
 {
     match value {
         OpenDelegation::None => writer.put_u32(0),
@@ -136,31 +124,33 @@ fn put_delegation(writer: &mut Writer, value: &OpenDelegation) -> Result<(), Mem
     }
 }
 
-#[tactic(auto, unfolding(crate::specs::Opens::delegation_bytes))]
+#[tactic(auto, using(nm_xdr::proofs::PutLaws::front_there, nm_xdr::proofs::PutLaws::front_stands), unfolding(crate::specs::Opens::delegation_bytes))]
 fn put_reading(writer: &mut Writer, stateid: &StateId) -> Result<(), Memory>
-    ensures { OnOk result (writer.new ≡ writer.old ++ delegation_bytes (written_delegation (delegation.Read stateid.now))) }
+    ensures { Puts writer.old (delegation_bytes (written_delegation (delegation.Read stateid.now))) result writer.new }
 {
     writer.put_u32(1)?;
-    put_stateid(writer, stateid)?;
+    put_stateid(writer, *stateid)?;
     writer.put_bool(false)?;
-    put_no_ace(writer)
+    put_no_ace(writer)?;
+    Ok(())
 }
 
-#[tactic(auto, unfolding(crate::specs::Opens::delegation_bytes))]
+#[tactic(auto, using(nm_xdr::proofs::PutLaws::front_there, nm_xdr::proofs::PutLaws::front_stands), unfolding(crate::specs::Opens::delegation_bytes))]
 fn put_writing(writer: &mut Writer, stateid: &StateId) -> Result<(), Memory>
-    ensures { OnOk result (writer.new ≡ writer.old ++ delegation_bytes (written_delegation (delegation.Write stateid.now))) }
+    ensures { Puts writer.old (delegation_bytes (written_delegation (delegation.Write stateid.now))) result writer.new }
 {
     writer.put_u32(2)?;
-    put_stateid(writer, stateid)?;
+    put_stateid(writer, *stateid)?;
     writer.put_bool(false)?;
     writer.put_u32(1)?;
     writer.put_u64(SIZE_LIMIT)?;
-    put_no_ace(writer)
+    put_no_ace(writer)?;
+    Ok(())
 }
 
-#[tactic(auto, unfolding(crate::specs::Opens::ace))]
+#[tactic(auto, using(nm_xdr::proofs::PutLaws::front_there, nm_xdr::proofs::PutLaws::front_stands), unfolding(crate::specs::Opens::ace))]
 fn put_no_ace(writer: &mut Writer) -> Result<(), Memory>
-    ensures { OnOk result (writer.new ≡ writer.old ++ ace no_ace) }
+    ensures { Puts writer.old (ace no_ace) result writer.new }
 {
     writer.put_u32(0)?;
     writer.put_u32(0)?;

@@ -2,14 +2,13 @@
 ghost use Rattle.std.specs.Prelude.{◌≡◌, []};
 ghost use Rattle.nm_xdr.specs.Fields.{rows_at};
 ghost use Rattle.nm_xdr.specs.Places.{Gives};
-ghost use Rattle.nm_attrs.specs.Takes.{Takes};
+ghost use Rattle.nm_items.specs.Takes.{Takes};
 ghost use Rattle.nm_results.specs.Results.{op_at, status_at, arm_at, result_at, items_at, results_at, AnswersResults};
 
 use crate::arms::{Arm, arm_of, is_op};
-use crate::parts::take_bytes;
 use crate::value_reading::take_value;
 use crate::{OpResult, ResultList, Results, ResultsFault};
-use nm_attrs::ReadFault;
+use nm_items::{ReadFault, take_kept};
 use nm_types::OpStatus;
 use nm_xdr::{Cursor, XdrFault};
 use std::alloc::Global;
@@ -36,7 +35,7 @@ fn take_results(alloc: Global, cursor: &mut Cursor<'_>) -> Result<Results, ReadF
     ensures { Takes results_at cursor.old result cursor.new }
 {
     let status = take_status(cursor)?;
-    let tag = take_bytes(alloc, cursor, 1024)?;
+    let tag = take_kept(alloc, cursor, 1024)?;
     let items = take_items(alloc, cursor)?;
     Ok(Results { status, tag, items })
 }
@@ -50,7 +49,11 @@ fn take_items(alloc: Global, cursor: &mut Cursor<'_>) -> Result<ResultList, Read
 }
 
 // So many results. Each takes memory once it was read.
-fn take_each(alloc: Global, cursor: &mut Cursor<'_>, count: u32) -> Result<ResultList, ReadFault>
+pub(crate) fn take_each(
+    alloc: Global,
+    cursor: &mut Cursor<'_>,
+    count: u32,
+) -> Result<ResultList, ReadFault>
     ensures { Takes (rows_at (λ _. result_at) count []) cursor.old result cursor.new }
 {
     let mut results = ResultList::new(alloc);
@@ -99,7 +102,7 @@ fn take_arm(cursor: &mut Cursor<'_>, op: u32) -> Result<(OpStatus, Arm), XdrFaul
 }
 
 #[tactic(auto, unfolding(crate::specs::Results::status_at, nm_xdr::specs::Items::enum_at))]
-fn take_status(cursor: &mut Cursor<'_>) -> Result<OpStatus, XdrFault>
+pub(crate) fn take_status(cursor: &mut Cursor<'_>) -> Result<OpStatus, XdrFault>
     ensures { Gives (λ s. s) status_at cursor.old result cursor.new }
 {
     let at = cursor.place();

@@ -4,7 +4,7 @@ use Rattle.std.proofs.lemmas.Bool.{cases_lt, eqb-true, eq-eqb, ltb-false, le-ltb
 use Rattle.std.proofs.lemmas.Bool.Decides.{nat_tests}
 use Rattle.std.proofs.lemmas.List.{drop-append-le, drop_all, get_or-drop, append-nil, length-append, length-drop}
 use Rattle.nm_xdr.specs.Fields.{short, Fault, Reading, fault_at, IsBytes, IsItem, all_of}
-use Rattle.nm_xdr.specs.Items.{structure, word_at, opaque_at, length_at}
+use Rattle.nm_xdr.specs.Items.{structure, word_at, opaque_at, length_at, bytes_at}
 use Rattle.nm_xdr.proofs.FieldLaws.{reads_longer}
 use Rattle.nm_xdr.proofs.ItemLaws.{word_item}
 use Rattle.nm_rpc.specs.declared.calls.Service.{Service}
@@ -12,7 +12,8 @@ use Rattle.nm_rpc.specs.declared.calls.CallHead.{CallHead}
 use Rattle.nm_rpc.specs.declared.calls.CallFault.TheVariants.{NotCall, RpcVersion, Version, Proc, Garbage}
 use Rattle.nm_rpc.specs.Messages.{sys_credential_at, Caller, nobody, sys_caller_of, caller_in, CallHeader, parts, header, auth_at, header_at, IsHeader, value_of, word_from, auth_from, ◌>>=◌, id_of_call, call_id, is_other, rpc_checked, claimed, caller_checked, is_past, served_by, service_of, served, service_checked, head_from, head_checked, call_of, judged_by, judged, EndsWithin}
 use Rattle.nm_rpc.proofs.HeaderLaws.{auth_item, Stands, items_stand}
-use Rattle.nm_rpc.proofs.CutHeaders.{CutIn, header_cut}
+use Rattle.nm_xdr.proofs.CutStructures.{CutIn}
+use Rattle.nm_rpc.proofs.CutHeaders.{header_cut}
 
 -- ---- Items of bytes that are cut
 
@@ -44,7 +45,7 @@ unfolding word_at
 no_word y e = cc
 
 no_auth : (y : List ℕ × List ℕ) → auth_at [] ≡ Ok y → ⊥
-unfolding auth_at opaque_at length_at word_at
+unfolding bytes_at opaque_at length_at word_at
 no_auth y e = cc
 
 prefix_word : (place : ℕ) (front more : List ℕ) (x : ℕ) → IsBytes front → word_from place (front ++ more) ≡ Some x

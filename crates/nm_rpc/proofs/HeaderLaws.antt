@@ -1,52 +1,41 @@
 -- The reading and the spelling of credentials and headers belong together.
-use Rattle.std.proofs.Common.{◌≡◌, ℕ, ◌+◌, ◌^◌, ◌≤◌, ◌<◌, List, [], ◌++◌, length, drop, Some, Result, Ok, Err, refl, sym, ap, ◌∙◌, append_assoc, arith}
+use Rattle.std.proofs.Common.{◌≡◌, ℕ, ◌+◌, ◌^◌, ◌≤◌, ◌<◌, List, ◌++◌, length, drop, Some, refl, sym, ap, ◌∙◌, append_assoc, arith}
 use Rattle.std.proofs.lemmas.List.{drop_at, drop-drop}
-use Rattle.std.proofs.lemmas.List.Elements.{All-from_recursion, recursion_from_All}
-use Rattle.nm_xdr.specs.Fields.{Fault, Reading, IsItem}
+use Rattle.nm_xdr.specs.Fields.{IsItem}
 use Rattle.nm_xdr.specs.Items.{word, opaque, word_at}
-use Rattle.nm_xdr.proofs.FieldLaws.{field_part, made_part, record_item, fits_as, each_fits, each_fits_after}
-use Rattle.nm_xdr.proofs.ItemLaws.{word_item, opaque_item, counted_item}
+use Rattle.nm_xdr.proofs.FieldLaws.{field_part, made_part, record_item, fits_as}
+use Rattle.nm_xdr.proofs.ItemLaws.{word_item, opaque_item}
+use Rattle.nm_xdr.proofs.ByteLaws.{bytes_item, words_item}
 use Rattle.nm_rpc.proofs.Lengths.{word_length}
-use Rattle.nm_rpc.specs.Messages.{SysCredential, sys_credential, gids_at, sys_credential_at, IsSysCredential, CallHeader, header, item_or_missing, item, auth_at, header_at, value_of, word_from, auth_from, IsHeader}
+use Rattle.nm_rpc.specs.Messages.{SysCredential, sys_credential, sys_credential_at, IsSysCredential, CallHeader, header, auth_at, header_at, value_of, word_from, auth_from, IsHeader}
 
 -- ---- Credentials
 
 pub sys_credential_item : IsItem sys_credential_at sys_credential IsSysCredential
-unfolding sys_credential_at sys_credential gids_at
+unfolding sys_credential_at sys_credential
 sys_credential_item =
     fits_as IsSysCredential
-    (λ s f. (f.stamp, (f.machine, (f.uid, (f.gid, ((f.count, each_fits_after (λ n. n < 2 ^ 32) [] s.gids (recursion_from_All (λ n. n < 2 ^ 32) s.gids f.gids)), tt))))))
+    (λ s f. (f.stamp, (f.machine, (f.uid, (f.gid, ((f.count, f.gids), tt))))))
     (λ s f. record {
       stamp = f.0;
       machine = f.1.0;
       uid = f.1.1.0;
       gid = f.1.1.1.0;
       count = f.1.1.1.1.0.0;
-      gids = All-from_recursion (λ n. n < 2 ^ 32) s.gids (each_fits (λ n. n < 2 ^ 32) [] s.gids f.1.1.1.1.0.1);
+      gids = f.1.1.1.1.0.1;
     }) (
     record_item (
     field_part (λ (s : SysCredential). s.stamp) _ (λ _. word_item) (
     field_part (λ s. s.machine) _ (λ _. opaque_item 255 (omega arith)) (
     field_part (λ s. s.uid) _ (λ _. word_item) (
     field_part (λ s. s.gid) _ (λ _. word_item) (
-    field_part (λ s. s.gids) _ (λ _. counted_item 16 (omega arith) (λ _. word_item)) (
+    field_part (λ s. s.gids) _ (λ _. words_item 16 (omega arith)) (
     made_part _ (λ _. refl) (λ _. refl))))))))
 
 -- ---- Headers
 
-found_or_missing : {X : Type 0} (bytes : List ℕ) (r : Result (X × List ℕ) Fault) (x : X × List ℕ) → item_or_missing bytes r ≡ Ok x → r ≡ Ok x
-found_or_missing bytes (Ok y) x e = e
-found_or_missing bytes (Err f) x e = absurd cc
-
-item_item : {X : Type 0} {read : Reading X} {spell : X → List ℕ} {Fits : X → Type 0} → IsItem read spell Fits → IsItem (item read) spell Fits
-item_item {X} {read} {spell} {Fits} i = record {
-  found = λ bytes x rest fits e. i.found bytes x rest fits (found_or_missing bytes (read bytes) (x, rest) e);
-  again = λ x rest fits. rw (i.again x rest fits) refl;
-}
-
 pub auth_item : IsItem auth_at opaque (λ bytes. length bytes ≤ 400)
-unfolding auth_at
-auth_item = item_item (opaque_item 400 (omega arith))
+auth_item = bytes_item 400 (omega arith)
 
 pub header_item : IsItem header_at header IsHeader
 unfolding header_at header

@@ -2,7 +2,6 @@ pub mod BackLaws
 pub mod CallLaws
 pub mod CutCalls
 pub mod CutHeaders
-pub mod Ends
 pub mod FeedLaws
 pub mod HeaderLaws
 pub mod Lengths

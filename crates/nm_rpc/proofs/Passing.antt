@@ -1,37 +1,8 @@
 -- Items that are passed over are read all the same.
-use Rattle.std.proofs.Common.{◌≡◌, ℕ, zero, suc, ◌+◌, ◌-◌, ◌≤◌, ◌<◌, List, [], ◌∷◌, ◌++◌, length, Option, Some, None, Result, Ok, Err, refl, ap, ◌∙◌, arith}
-use Rattle.nm_xdr.specs.Fields.{Fault, Reading, ◌>>=◌, made, rows_at, ended, all_of}
+use Rattle.std.proofs.Common.{◌≡◌, ℕ, ◌<◌, List, [], ◌∷◌, length, Option, Some, None, Result, Ok, Err, refl, ap, ◌∙◌, arith}
+use Rattle.nm_xdr.specs.Fields.{Fault, Reading, ◌>>=◌, made, ended, all_of, passed}
 use Rattle.nm_xdr.specs.Items.{word_at, opaque_at}
-use Rattle.nm_xdr.proofs.FieldLaws.{rows_next, rows_fault, rows_done}
-use Rattle.nm_rpc.specs.Messages.{SysCredential, Caller, passed, pass, gids_at, sys_credential_at, sys_caller, sys_caller_at, sys_caller_of}
-
--- ---- Words that are passed over one by one
-
-passed_bound : {A X Y : Type 0} (r : Result (A × List ℕ) Fault) (more : A → Reading X) (other : A → Reading Y)
-    → ((a : A) (bytes : List ℕ) → pass (more a) bytes ≡ pass (other a) bytes) → passed (r >>= λ a. more a.0 a.1) ≡ passed (r >>= λ a. other a.0 a.1)
-passed_bound (Ok a) more other same = same a.0 a.1
-passed_bound (Err f) more other same = refl
-
--- what came before doesn't matter
-earlier_passed : (count : ℕ) (earlier other : List ℕ) (bytes : List ℕ)
-    → pass (rows_at (λ _. word_at) count earlier) bytes ≡ pass (rows_at (λ _. word_at) count other) bytes
-unfolding rows_at
-earlier_passed zero earlier other bytes = refl
-earlier_passed (suc count) earlier other bytes =
-    passed_bound (word_at bytes) (λ n. rows_at (λ _. word_at) count (earlier ++ n ∷ [])) (λ n. rows_at (λ _. word_at) count (other ++ n ∷ []))
-    (λ n rest. earlier_passed count (earlier ++ n ∷ []) (other ++ n ∷ []) rest)
-
-pub word_passed : (count i : ℕ) (bytes : List ℕ) (x : ℕ) (rest : List ℕ) → i < count → word_at bytes ≡ Ok (x, rest)
-    → pass (rows_at (λ _. word_at) (count - i) []) bytes ≡ pass (rows_at (λ _. word_at) (count - (i + 1)) []) rest
-word_passed count i bytes x rest lt e =
-    ap passed (rows_next (λ _. word_at) count i [] bytes x rest lt e) ∙ earlier_passed (count - (i + 1)) (x ∷ []) [] rest
-
-pub word_missing : (count i : ℕ) (bytes : List ℕ) (f : Fault) → i < count → word_at bytes ≡ Err f
-    → pass (rows_at (λ _. word_at) (count - i) []) bytes ≡ Err f
-word_missing count i bytes f lt e = ap passed (rows_fault (λ _. word_at) count i [] bytes f lt e)
-
-pub words_passed : (count i : ℕ) (bytes : List ℕ) → count ≤ i → pass (rows_at (λ _. word_at) (count - i) []) bytes ≡ Ok (tt, bytes)
-words_passed count i bytes le = ap passed (rows_done (λ _. word_at) count i [] bytes le)
+use Rattle.nm_rpc.specs.Messages.{SysCredential, Caller, gids_at, sys_credential_at, sys_caller, sys_caller_at, sys_caller_of}
 
 -- ---- What is kept of a structure
 
@@ -79,11 +50,11 @@ by_caller bytes = by_credential (sys_credential_at bytes) ∙ ap whole (caller_k
     by_credential (Ok x) = by_rest x.0 x.1
     by_credential (Err f) = refl
 
-pub whole_caller : (bytes : List ℕ) (c : Caller) (rest : List ℕ) → sys_caller_at bytes ≡ Ok (c, rest) → length rest ≡ 0
+pub whole_caller : (bytes : List ℕ) (c : Caller) (rest : List ℕ) → sys_caller_at bytes ≡ Ok (c, rest) → rest ≡ []
     → sys_caller_of (all_of sys_credential_at bytes) ≡ Some c
 unfolding whole
-whole_caller bytes c [] e len = by_caller bytes ∙ ap whole e
-whole_caller bytes c (b ∷ rest) e len = absurd (omega arith)
+whole_caller bytes c [] e none = by_caller bytes ∙ ap whole e
+whole_caller bytes c (b ∷ rest) e none = absurd cc
 
 pub longer_caller : (bytes : List ℕ) (c : Caller) (rest : List ℕ) → sys_caller_at bytes ≡ Ok (c, rest) → 0 < length rest
     → sys_caller_of (all_of sys_credential_at bytes) ≡ None

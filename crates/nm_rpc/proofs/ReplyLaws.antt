@@ -1,31 +1,20 @@
 -- A reply is read exactly where bytes are one.
-use Rattle.std.proofs.Common.{◌≡◌, ◌≢◌, ℕ, ◌+◌, ◌-◌, ◌^◌, ◌≤◌, ◌<◌, Bool, true, false, cond, eqb, leb, List, [], ◌∷◌, ◌++◌, length, Some, Result, Ok, Err, refl, sym, ap, subst, ◌∙◌, append_assoc, arith}
-use Rattle.std.proofs.lemmas.Bool.{eqb-true, eq-eqb, eqb-false, ne_eqb, leb-true, le-leb}
+use Rattle.std.proofs.Common.{◌≡◌, ◌≢◌, ℕ, ◌+◌, ◌-◌, ◌^◌, ◌≤◌, ◌<◌, Bool, true, false, cond, eqb, List, [], ◌∷◌, ◌++◌, length, Some, Result, Ok, Err, refl, sym, ap, subst, ◌∙◌, append_assoc, arith}
+use Rattle.std.proofs.lemmas.Bool.{eqb-true, eqb-false, ne_eqb}
 use Rattle.std.proofs.lemmas.List.{append-nil, length-append}
-use Rattle.nm_xdr.specs.Fields.{enum, Fault, Reading, ◌>>=◌, field, made, ended, IsBytes, IsItem}
+use Rattle.nm_xdr.specs.Fields.{Fault, Reading, ◌>>=◌, field, made, ended, IsBytes, IsItem}
 use Rattle.nm_xdr.specs.Items.{word, padding_of, fixed, opaque, word_at}
-use Rattle.nm_xdr.proofs.FieldLaws.{IsBytes-behind, tested_item, fits_as}
+use Rattle.nm_xdr.proofs.FieldLaws.{IsBytes-behind}
+use Rattle.nm_xdr.proofs.ByteLaws.{only_item, choice_item}
 use Rattle.nm_xdr.proofs.ItemLaws.{word_item, opaque_item}
 use Rattle.nm_rpc.specs.declared.calls.CallFault.{CallFault}
 use Rattle.nm_rpc.specs.declared.calls.CallFault.TheVariants.{NotCall, RpcVersion, Auth, Program, Version, Proc, Garbage, Memory}
 use Rattle.nm_rpc.specs.declared.replies.ReplyHead.{ReplyHead}
 use Rattle.nm_rpc.specs.declared.replies.ReplyOutcome.{ReplyOutcome}
 use Rattle.nm_rpc.specs.declared.replies.ReplyOutcome.TheVariants.{Success, Accepted, Denied}
-use Rattle.nm_rpc.specs.Replies.{Reply, done, undone, other_versions, other_rpc, unknown_caller, accepted, denied, versions, reply, only_at, choice_at, versions_at, success_at, accepted_as, accepted_at, denied_as, denied_at, reply_at, closed, reply_of, IsSaid, outcome_of, IsReply, refusal, HasWords, told, read_of, read_head}
+use Rattle.nm_rpc.specs.Replies.{Reply, done, undone, other_versions, other_rpc, unknown_caller, accepted, denied, versions, reply, versions_at, success_at, accepted_as, accepted_at, denied_as, denied_at, reply_at, closed, reply_of, IsSaid, outcome_of, IsReply, refusal, HasWords, told, read_of, read_head}
 
 -- ---- Items
-
-only_item : (k : ℕ) → k < 2 ^ 32 → IsItem (only_at k) word (λ n. n ≡ k)
-unfolding only_at
-only_item k small =
-    fits_as (λ n. n ≡ k) (λ n e. (subst (λ m. m < 2 ^ 32) (sym e) small, eq-eqb n k e)) (λ n f. eqb-true n k f.1)
-    (tested_item (λ n. eqb n k) enum word_item)
-
-choice_item : IsItem choice_at word (λ n. n ≤ 1)
-unfolding choice_at
-choice_item =
-    fits_as (λ n. n ≤ 1) (λ n le. (omega arith, le-leb n 1 le)) (λ n f. leb-true n 1 f.1)
-    (tested_item (λ n. leb n 1) enum word_item)
 
 -- A field that is spelled is read, and what comes after it goes on.
 field_again : {A Y : Type 0} {read : Reading A} {spell : A → List ℕ} {Fits : A → Type 0} → IsItem read spell Fits

@@ -1,7 +1,7 @@
 -- Calls of RPC (RFC 5531, sections 8.2 and 9): their layout, and what is read of any bytes.
 use Rattle.std.specs.Prelude.{◌≡◌, ℕ, ◌+◌, ◌-◌, ◌≤◌, ◌<◌, ◌^◌, Bool, false, ◌==◌, ◌&&◌, not, nat_le, nat_lt, List, [], ◌∷◌, ◌++◌, length, drop, find, All, Option, Some, None, Result, Ok, Err, ◌⊎◌, if◌then◌else◌}
-use Rattle.nm_xdr.specs.Fields.{short, Fault, Reading, fault_at, field, made, all_of}
-use Rattle.nm_xdr.specs.Items.{word, opaque, counted, structure, word_at, opaque_at, counted_at}
+use Rattle.nm_xdr.specs.Fields.{Fault, Reading, field, made, all_of, pass}
+use Rattle.nm_xdr.specs.Items.{word, opaque, counted, structure, word_at, opaque_at, bytes_at, words_at}
 use Rattle.nm_types.specs.declared.instance.Principal.{Principal}
 use Rattle.nm_rpc.specs.declared.calls.Service.{Service}
 use Rattle.nm_rpc.specs.declared.calls.CallHead.{CallHead}
@@ -22,21 +22,13 @@ unfoldable pub sys_credential : SysCredential → List ℕ
 sys_credential s = structure (word s.stamp ∷ opaque s.machine ∷ word s.uid ∷ word s.gid ∷ counted word s.gids ∷ [])
 
 -- the gids, of which there are at most 16
-unfoldable pub gids_at : Reading (List ℕ)
-gids_at = counted_at 16 (λ _. word_at)
+abbrev pub gids_at : Reading (List ℕ)
+gids_at = words_at 16
 
 unfoldable pub sys_credential_at : Reading SysCredential
 sys_credential_at =
     field word_at (λ stamp. field (opaque_at 255) (λ machine. field word_at (λ uid. field word_at (λ gid. field gids_at (λ gids.
     made (record { stamp = stamp; machine = machine; uid = uid; gid = gid; gids = gids }))))))
-
--- What was read, without its value: it is passed over.
-abbrev pub passed : {X : Type 0} → Result (X × List ℕ) Fault → Result (Unit {0} × List ℕ) Fault
-passed (Ok x) = Ok (tt, x.1)
-passed (Err f) = Err f
-
-abbrev pub pass : {X : Type 0} → Reading X → Reading (Unit {0})
-pass read bytes = passed (read bytes)
 
 -- Who calls, and from which machine.
 pub record Caller : Type 0 where
@@ -93,17 +85,9 @@ parts h =
 unfoldable pub header : CallHeader → List ℕ
 header h = structure (parts h)
 
--- What is wrong in an item of a header doesn't matter: it is missing from its first byte on.
-abbrev pub item_or_missing : {X : Type 0} → List ℕ → Result (X × List ℕ) Fault → Result (X × List ℕ) Fault
-item_or_missing bytes (Ok x) = Ok x
-item_or_missing bytes (Err f) = fault_at short bytes
-
-abbrev pub item : {X : Type 0} → Reading X → Reading X
-item read bytes = item_or_missing bytes (read bytes)
-
 -- The bytes of a credential or a verifier, of which there are at most 400.
-unfoldable pub auth_at : Reading (List ℕ)
-auth_at = item (opaque_at 400)
+abbrev pub auth_at : Reading (List ℕ)
+auth_at = bytes_at 400
 
 unfoldable pub header_at : Reading CallHeader
 header_at =

@@ -1,8 +1,8 @@
 -- Replies of RPC (RFC 5531, 9): their layout, and what is read of any bytes.
-use Rattle.std.specs.Prelude.{◌≡◌, ◌≢◌, ℕ, ◌-◌, ◌≤◌, ◌<◌, ◌^◌, ◌==◌, nat_le, List, [], ◌∷◌, ◌++◌, length, Option, Some, None, Result, Ok, Err, if◌then◌else◌}
+use Rattle.std.specs.Prelude.{◌≡◌, ◌≢◌, ℕ, ◌-◌, ◌≤◌, ◌<◌, ◌^◌, ◌==◌, List, [], ◌∷◌, ◌++◌, length, Option, Some, None, Result, Ok, Err, if◌then◌else◌}
 use Rattle.nm_xdr.specs.declared.fault.XdrFault.{XdrFault}
-use Rattle.nm_xdr.specs.Fields.{enum, Fault, Reading, ◌>>=◌, field, made, tested, ended}
-use Rattle.nm_xdr.specs.Items.{word, opaque, structure, word_at, opaque_at}
+use Rattle.nm_xdr.specs.Fields.{Fault, Reading, ◌>>=◌, field, made, ended}
+use Rattle.nm_xdr.specs.Items.{word, opaque, structure, word_at, opaque_at, only_at, choice_at}
 use Rattle.nm_xdr.specs.Places.{fault_of, place_of}
 use Rattle.nm_rpc.specs.declared.calls.CallFault.{CallFault}
 use Rattle.nm_rpc.specs.declared.calls.CallFault.TheVariants.{NotCall, RpcVersion, Auth, Program, Version, Proc, Garbage, Memory}
@@ -45,14 +45,6 @@ reply xid (other_rpc low high) = denied xid 0 ++ versions low high
 reply xid (unknown_caller why) = denied xid 1 ++ word why
 
 -- ---- Reading
-
--- a word that is this number
-unfoldable pub only_at : ℕ → Reading ℕ
-only_at number = tested (λ n. n == number) enum word_at
-
--- a word that is 0 or 1
-unfoldable pub choice_at : Reading ℕ
-choice_at = tested (λ n. nat_le n 1) enum word_at
 
 -- Two versions are passed over, and this is the value.
 abbrev pub versions_at : ReplyHead → Reading ReplyHead

@@ -4,7 +4,7 @@ ghost use Rattle.std.specs.Option.{option_map};
 ghost use Rattle.nm_rpc.specs.Messages.{call_id, rpc_checked, caller_checked, service_checked, service_of, served_by, seen_by, head_checked, call_of, Answers};
 
 use crate::credentials::{Caller, caller_in_credential};
-use crate::headers::{auth_at_place, place_of_fault, take_header, word_at_place};
+use crate::headers::{auth_at_place, take_header, word_at_place};
 use crate::{CallFault, CallHead, Service};
 use nm_types::{Bytes, Memory};
 use nm_xdr::Cursor;
@@ -132,7 +132,7 @@ fn head_of_call(
         Err(fault) => {
             return Err(CallFault::Garbage {
                 xid,
-                at: place_of_fault(fault),
+                at: fault.place(),
             });
         }
     };

@@ -1,10 +1,9 @@
 //! Who calls: the credentials of AUTH_NONE and AUTH_SYS (RFC 5531, 8.2 and appendix A).
-ghost use Rattle.std.specs.Prelude.{◌≡◌, []};
+ghost use Rattle.std.specs.Prelude.{◌≡◌};
 ghost use Rattle.std.specs.Option.{option_map};
-ghost use Rattle.nm_xdr.specs.Fields.{rows_at, all_of};
-ghost use Rattle.nm_xdr.specs.Items.{word_at};
+ghost use Rattle.nm_xdr.specs.Fields.{all_of};
 ghost use Rattle.nm_xdr.specs.Places.{Gives};
-ghost use Rattle.nm_rpc.specs.Messages.{pass, gids_at, sys_caller_at, sys_caller_of, sys_credential_at, caller_in};
+ghost use Rattle.nm_rpc.specs.Messages.{sys_caller_at, sys_caller_of, sys_credential_at, caller_in};
 
 use nm_types::Principal;
 use nm_xdr::{Cursor, XdrFault};
@@ -40,9 +39,7 @@ fn all_sys_caller<'a>(credential: &'a [u8]) -> Option<Caller<'a>>
 {
     let mut cursor = Cursor::new(credential);
     let caller = take_sys_caller(&mut cursor).ok()?;
-    if cursor.left() > 0 {
-        return None;
-    }
+    cursor.end().ok()?;
     Some(caller)
 }
 
@@ -55,27 +52,9 @@ fn take_sys_caller<'a>(cursor: &mut Cursor<'a>) -> Result<Caller<'a>, XdrFault>
     let machine = cursor.take_opaque(255)?;
     let uid = cursor.take_u32()?;
     cursor.take_u32()?;
-    pass_gids(cursor)?;
+    cursor.pass_words(16)?;
     Ok(Caller {
         principal: Principal { flavor: 1, uid },
         machine,
     })
-}
-
-#[tactic(auto, unfolding(crate::specs::Messages::gids_at, nm_xdr::specs::Items::counted_at))]
-fn pass_gids(cursor: &mut Cursor) -> Result<(), XdrFault>
-    ensures { Gives (λ u. u) (pass gids_at) cursor.old result cursor.new }
-{
-    let count = cursor.take_count(16)?;
-    pass_words(cursor, count)
-}
-
-#[tactic(auto, using(crate::proofs::Passing::word_missing))]
-fn pass_words(cursor: &mut Cursor, count: u32) -> Result<(), XdrFault>
-    ensures { Gives (λ u. u) (pass (rows_at (λ _. word_at) count [])) cursor.old result cursor.new }
-{
-    for _ in 0..count {
-        cursor.take_u32()?;
-    }
-    Ok(())
 }

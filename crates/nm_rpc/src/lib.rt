@@ -34,7 +34,7 @@ mod replies;
 mod stream_laws;
 
 pub use call_reading::read_call;
-pub use call_writing::write_call;
+pub use call_writing::{put_call_head, write_call};
 pub use calls::{CallFault, CallHead, Service};
 pub use fault::RecordFault;
 pub use message_laws::{
@@ -42,8 +42,10 @@ pub use message_laws::{
     cut_calls_are_garbage, replies_are_read_as_spelled, replies_are_read_as_written,
 };
 pub use pieces::split_records;
-pub use records::{Records, write_records};
-pub use replies::{ReplyHead, ReplyOutcome, read_reply, write_refusal, write_reply};
+pub use records::{Records, close_record, write_records};
+pub use replies::{
+    ReplyHead, ReplyOutcome, put_reply_head, read_reply, write_refusal, write_reply,
+};
 pub use stream_laws::{
     cutting_changes_nothing, headers_are_words, held_is_of_the_stream, spelled_records_are_given,
     streams_split_in_one_way,

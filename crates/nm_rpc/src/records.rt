@@ -1,6 +1,6 @@
 //! Records out of a stream's bytes, and a message as a record.
 
-ghost use Rattle.std.specs.Prelude.{◌≡◌, ℕ, ◌+◌, ◌-◌, ◌<◌, ◌≤◌, ◌^◌, List, [], ◌∷◌, ◌++◌, length, take, Some, Err, option_map, IfOk, OnOk, OnErr};
+ghost use Rattle.std.specs.Prelude.{◌≡◌, ℕ, ◌+◌, ◌-◌, ◌<◌, ◌≤◌, ◌^◌, List, [], ◌∷◌, ◌++◌, length, take, drop, Some, Err, option_map, IfOk, OnOk, OnErr};
 ghost use Rattle.nm_xdr.specs.Items.{word};
 ghost use Rattle.nm_rpc.specs.Stream.{IsSpellingOf};
 ghost use Rattle.nm_rpc.specs.Feeding.{fresh, settled, opened, grown, taken_in, fed, IsAfter, refusal_of, Feeds, counted, Gives};
@@ -13,6 +13,7 @@ use crate::fault::RecordFault;
 use crate::joined::Joined;
 use crate::phase::Phase;
 use nm_types::Memory;
+use nm_xdr::Writer;
 use std::alloc::Global;
 use std::collections::VecDeque;
 use std::marker::Model;
@@ -256,4 +257,17 @@ pub fn write_records(alloc: Global, message: &[u8]) -> Result<Vec<u8>, Memory>
     bytes.extend_from_slice(&header)?;
     bytes.extend_from_slice(message)?;
     Ok(bytes)
+}
+
+/// Makes what was put behind the 4 bytes from `at` on a record of one fragment (RFC 5531, section 11): its header comes into
+/// their place. So a message is put once, behind 4 bytes that are kept free, and isn't moved.
+///
+/// The message has fewer than 2^31 bytes.
+pub fn close_record(writer: &mut Writer, at: usize)
+    requires inside { at + 4 ≤ length writer.old }
+    requires short { length writer.old < at + 4 + 2 ^ 31 }
+    ensures { writer.new ≡ take at writer.old ++ (word (2147483648 + length (drop (at + 4) writer.old)) ++ drop (at + 4) writer.old) }
+{
+    let length = writer.len() - at - HEADER;
+    writer.set_u32(at, LAST + length as u32);
 }

@@ -1,8 +1,8 @@
 //! Replies, read and written.
-ghost use Rattle.std.specs.Prelude.{◌≡◌, ◌++◌, ◌==◌, nat_le, IfOk, OnOk, OnErr, IsSome, ℕ};
+ghost use Rattle.std.specs.Prelude.{◌≡◌, ◌++◌, IfOk, OnOk, OnErr, IsSome};
 ghost use Rattle.std.specs.Option.{option_map};
-ghost use Rattle.nm_xdr.specs.Places.{Gives, end_of};
-ghost use Rattle.nm_rpc.specs.Replies.{done, undone, other_versions, other_rpc, unknown_caller, accepted, denied, reply, only_at, choice_at, accepted_as, accepted_at, denied_as, denied_at, reply_at, AnswersReply, refusal, spelled};
+ghost use Rattle.nm_xdr.specs.Places.{Gives, Puts, end_of};
+ghost use Rattle.nm_rpc.specs.Replies.{done, undone, other_versions, other_rpc, unknown_caller, accepted, denied, reply, accepted_as, accepted_at, denied_as, denied_at, reply_at, AnswersReply, refusal, spelled};
 
 use crate::CallFault;
 use nm_types::Memory;
@@ -41,7 +41,7 @@ pub enum ReplyOutcome {
 ///
 /// Enum for a number that isn't one of its choices, TooLong for a verifier with bytes and for bytes that are left over,
 /// and Short where an item isn't all there; the first fault, at the item's first byte.
-#[tactic(auto, using(crate::proofs::Ends::left_over, crate::proofs::Ends::nothing_left), unfolding(crate::specs::Replies::reply_of))]
+#[tactic(auto, using(nm_xdr::proofs::PassLaws::left_over, nm_xdr::proofs::PassLaws::nothing_left), unfolding(crate::specs::Replies::reply_of))]
 pub fn read_reply(bytes: &[u8]) -> Result<ReplyHead, XdrFault>
     ensures { AnswersReply result bytes.now }
 {
@@ -50,13 +50,7 @@ pub fn read_reply(bytes: &[u8]) -> Result<ReplyHead, XdrFault>
     match head.outcome {
         ReplyOutcome::Success { .. } => Ok(head),
         ReplyOutcome::Accepted { .. } | ReplyOutcome::Denied { .. } => {
-            if cursor.left() > 0 {
-                return Err(XdrFault::TooLong {
-                    at: cursor.place(),
-                    got: cursor.left() as u64,
-                    max: 0,
-                });
-            }
+            cursor.end()?;
             Ok(head)
         }
     }
@@ -67,8 +61,8 @@ fn take_reply(cursor: &mut Cursor<'_>) -> Result<ReplyHead, XdrFault>
     ensures { Gives (λ head. head) (reply_at (end_of cursor.old)) cursor.old result cursor.new }
 {
     let xid = cursor.take_u32()?;
-    take_only(cursor, 1)?;
-    if take_choice(cursor)? == 0 {
+    cursor.take_only(1)?;
+    if cursor.take_choice()? == 0 {
         take_accepted(cursor, xid)
     } else {
         take_denied(cursor, xid)
@@ -79,7 +73,7 @@ fn take_reply(cursor: &mut Cursor<'_>) -> Result<ReplyHead, XdrFault>
 fn take_accepted(cursor: &mut Cursor<'_>, xid: u32) -> Result<ReplyHead, XdrFault>
     ensures { Gives (λ head. head) (accepted_at (end_of cursor.old) xid) cursor.old result cursor.new }
 {
-    take_only(cursor, 0)?;
+    cursor.take_only(0)?;
     cursor.take_opaque(0)?;
     let stat = cursor.take_u32()?;
     take_accepted_arm(cursor, xid, stat)
@@ -110,7 +104,7 @@ fn take_accepted_arm(cursor: &mut Cursor<'_>, xid: u32, stat: u32) -> Result<Rep
 fn take_denied(cursor: &mut Cursor<'_>, xid: u32) -> Result<ReplyHead, XdrFault>
     ensures { Gives (λ head. head) (denied_at xid) cursor.old result cursor.new }
 {
-    let stat = take_choice(cursor)?;
+    let stat = cursor.take_choice()?;
     take_denied_arm(cursor, xid, stat)
 }
 
@@ -128,30 +122,20 @@ fn take_denied_arm(cursor: &mut Cursor<'_>, xid: u32, stat: u32) -> Result<Reply
     })
 }
 
-// Takes a word that is this number.
-#[tactic(auto, unfolding(crate::specs::Replies::only_at))]
-fn take_only(cursor: &mut Cursor<'_>, number: u32) -> Result<u32, XdrFault>
-    ensures { Gives (λ n. n) (only_at number) cursor.old result cursor.new }
+/// Puts what stands before the body of the reply to a call that was done (RFC 5531, 9): the body is put behind it.
+///
+/// Memory where there is none for its 24 bytes.
+pub fn put_reply_head(writer: &mut Writer, xid: u32) -> Result<(), Memory>
+    ensures ok { OnOk result (writer.new ≡ writer.old ++ accepted xid 0) }
+    ensures err { OnErr result (writer.new ≡ writer.old) }
 {
-    let at = cursor.place();
-    let got = cursor.take_u32()?;
-    if got != number {
-        return Err(XdrFault::Enum { at, got });
+    let before = writer.len();
+    writer.reserve(24)?;
+    let put = put_accepted(writer, xid, 0);
+    if put.is_err() {
+        writer.cut_back(before);
     }
-    Ok(got)
-}
-
-// Takes a word that is 0 or 1.
-#[tactic(auto, unfolding(crate::specs::Replies::choice_at))]
-fn take_choice(cursor: &mut Cursor<'_>) -> Result<u32, XdrFault>
-    ensures { Gives (λ n. n) choice_at cursor.old result cursor.new }
-{
-    let at = cursor.place();
-    let got = cursor.take_u32()?;
-    if got > 1 {
-        return Err(XdrFault::Enum { at, got });
-    }
-    Ok(got)
+    put
 }
 
 /// Writes the reply to a call that was done, with its body.
@@ -160,10 +144,16 @@ pub fn write_reply(alloc: Global, xid: u32, body: &[u8]) -> Result<Vec<u8>, Memo
     ensures { IfOk result (λ bytes. bytes.items ≡ reply xid (done body.now)) }
 {
     let mut writer = Writer::new(alloc);
-    put_accepted(&mut writer, xid, 0)?;
-    let mut bytes = writer.finish();
-    bytes.extend_from_slice(body)?;
-    Ok(bytes)
+    put_whole_reply(&mut writer, xid, body)?;
+    Ok(writer.finish())
+}
+
+fn put_whole_reply(writer: &mut Writer, xid: u32, body: &[u8]) -> Result<(), Memory>
+    ensures { OnOk result (writer.new ≡ (writer.old ++ accepted xid 0) ++ body.now) }
+{
+    writer.reserve(body.len() + 24)?;
+    put_reply_head(writer, xid)?;
+    writer.put_bytes(body)
 }
 
 /// Writes the reply to a call that is refused. None exactly for NotCall and Memory, to which nothing is answered, and for
@@ -187,16 +177,17 @@ pub fn write_refusal(alloc: Global, fault: &CallFault) -> Result<Option<Vec<u8>>
     Ok(Some(writer.finish()))
 }
 
-#[tactic(auto, unfolding(crate::specs::Replies::accepted))]
+#[tactic(auto, using(nm_xdr::proofs::PutLaws::front_there, nm_xdr::proofs::PutLaws::front_stands), unfolding(crate::specs::Replies::accepted))]
 fn put_accepted(writer: &mut Writer, xid: u32, stat: u32) -> Result<(), Memory>
-    ensures { OnOk result (writer.new ≡ writer.old ++ accepted xid stat) }
+    ensures { Puts writer.old (accepted xid stat) result writer.new }
 {
     writer.put_u32(xid)?;
     writer.put_u32(1)?;
     writer.put_u32(0)?;
     writer.put_u32(0)?;
     writer.put_opaque(&[])?;
-    writer.put_u32(stat)
+    writer.put_u32(stat)?;
+    Ok(())
 }
 
 #[tactic(auto, unfolding(crate::specs::Replies::denied))]

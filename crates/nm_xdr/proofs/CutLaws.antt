@@ -4,8 +4,8 @@ use Rattle.std.proofs.lemmas.Bool.{cases_lt, lt-ltb}
 use Rattle.std.proofs.lemmas.List.{take-append-drop, take_at, drop_at, take-append-le, drop-append-le, length-append, length-replicate}
 use Rattle.byteorder.specs.Endian.{big_bytes}
 use Rattle.byteorder.specs.Numbers.{length-bytes_high_first}
-use Rattle.nm_xdr.specs.Fields.{short, fault_at, field, whole, IsShortWhereCut}
-use Rattle.nm_xdr.specs.Items.{word, hyper, flag, padding_of, fixed, opaque, word_at, hyper_at, flag_at, fixed_at, length_at, opaque_at}
+use Rattle.nm_xdr.specs.Fields.{short, fault_at, field, whole, or_missing, IsShortWhereCut}
+use Rattle.nm_xdr.specs.Items.{word, hyper, flag, padding_of, fixed, opaque, word_at, hyper_at, flag_at, fixed_at, length_at, opaque_at, bytes_at, only_at, choice_at}
 use Rattle.nm_xdr.proofs.ItemLaws.{length_item}
 
 -- what is cut off has a length
@@ -67,3 +67,16 @@ opaque_cut max small bytes front more fits cut e = elim (cases_lt (length front)
         let first : length_at max front ≡ Ok (len, drop 4 front) = ap (length_at max) parts ∙ (length_item max small).again len (drop 4 front) fits in
         let second : fixed_at len (drop 4 front) ≡ fault_at short (drop 4 front) = fixed_cut len bytes (drop 4 front) more refl cut (sym b4) in
         rw (first, second) refl
+
+-- The same of items that are told at their first byte, and of wanted numbers.
+pub bytes_cut : (max : ℕ) → max < 2 ^ 32 → IsShortWhereCut (bytes_at max) opaque (λ bytes. length bytes ≤ max)
+unfolding bytes_at
+bytes_cut max small bytes front more fits some e = ap (or_missing front) (opaque_cut max small bytes front more fits some e)
+
+pub only_cut : (k : ℕ) → k < 2 ^ 32 → IsShortWhereCut (only_at k) word (λ n. n ≡ k)
+unfolding only_at
+only_cut k small n front more is some e = rw (word_cut n front more (omega (arith, is, small)) some e) refl
+
+pub choice_cut : IsShortWhereCut choice_at word (λ n. n ≤ 1)
+unfolding choice_at
+choice_cut n front more few some e = rw (word_cut n front more (omega (arith, few)) some e) refl

@@ -99,7 +99,7 @@ tested_item {X} {read} {spell} {Fits} test flaw item = record {
   again = λ x rest fits. rw (item.again x rest fits.0, fits.1) refl;
 }
 
-whole_ok : {X : Type 0} (start : ℕ) (r : Result X Fault) (y : X) → whole_from start r ≡ Ok y → r ≡ Ok y
+pub whole_ok : {X : Type 0} (start : ℕ) (r : Result X Fault) (y : X) → whole_from start r ≡ Ok y → r ≡ Ok y
 whole_ok start (Ok x) y e = e
 whole_ok start (Err f) y e = absurd cc
 

@@ -23,7 +23,7 @@ IsBytes-take n bytes h i =
 abbrev number_at : ℕ → Reading ℕ
 number_at n bytes = cond (ltb (length bytes) n) (Err (record { flaw = short; left = length bytes })) (Ok (big_number n bytes, drop n bytes))
 
-short_or : {X : Type 0} (b : Bool) (d : Fault) (x y : X) → cond b (Err d) (Ok x) ≡ Ok y → (b ≡ false) × (x ≡ y)
+pub short_or : {X : Type 0} (b : Bool) (d : Fault) (x y : X) → cond b (Err d) (Ok x) ≡ Ok y → (b ≡ false) × (x ≡ y)
 short_or true d x y e = absurd cc
 short_or false d x y e = (refl, cc)
 
@@ -118,14 +118,14 @@ zero_none n =
     rw past refl
 
 -- by where a byte of the padding isn't 0
-padded_found : (n : ℕ) (bytes : List ℕ) (o : Option ℕ) (x rest : List ℕ) → padded_at n bytes o ≡ Ok (x, rest)
+pub padded_found : (n : ℕ) (bytes : List ℕ) (o : Option ℕ) (x rest : List ℕ) → padded_at n bytes o ≡ Ok (x, rest)
     → (o ≡ None) × (take n bytes ≡ x) × (drop (n + padding_of n) bytes ≡ rest)
 padded_found n bytes None x rest e =
     let same = same_value (take n bytes) x (drop (n + padding_of n) bytes) rest e in
     (refl, same.0, same.1)
 padded_found n bytes (Some i) x rest e = absurd cc
 
-long_enough : {X : Type 0} (b : Bool) (d : Fault) (r : Result X Fault) (y : X) → cond b (Err d) r ≡ Ok y → (b ≡ false) × (r ≡ Ok y)
+pub long_enough : {X : Type 0} (b : Bool) (d : Fault) (r : Result X Fault) (y : X) → cond b (Err d) r ≡ Ok y → (b ≡ false) × (r ≡ Ok y)
 long_enough true d r y e = absurd cc
 long_enough false d r y e = (refl, e)
 

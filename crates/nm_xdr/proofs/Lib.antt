@@ -1,4 +1,9 @@
 pub mod FieldLaws
 pub mod ItemLaws
+pub mod PassLaws
+pub mod ByteLaws
+pub mod PutLaws
 pub mod CutLaws
 pub mod ExactLaws
+pub mod MadeLaws
+pub mod CutStructures

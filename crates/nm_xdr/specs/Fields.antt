@@ -82,6 +82,24 @@ whole_from start (Err f) = Err (of_whole start f)
 abbrev pub whole : {X : Type 0} → Reading X → Reading X
 whole read bytes = whole_from (length bytes) (read bytes)
 
+-- What was read of an item. Whatever is wrong with it, it is missing from its first byte on.
+abbrev pub or_missing : {X : Type 0} → List ℕ → Result (X × List ℕ) Fault → Result (X × List ℕ) Fault
+or_missing bytes (Ok x) = Ok x
+or_missing bytes (Err f) = fault_at short bytes
+
+-- An item that is told at its first byte, whatever is wrong with it.
+abbrev pub item : {X : Type 0} → Reading X → Reading X
+item read bytes = or_missing bytes (read bytes)
+
+-- What was read, without its value.
+abbrev pub passed : {X : Type 0} → Result (X × List ℕ) Fault → Result (Unit {0} × List ℕ) Fault
+passed (Ok x) = Ok (tt, x.1)
+passed (Err f) = Err f
+
+-- An item that is read and not kept.
+abbrev pub pass : {X : Type 0} → Reading X → Reading (Unit {0})
+pass read bytes = passed (read bytes)
+
 -- ---- A reading and a spelling that belong together
 
 -- Bytes are numbers below 256.

@@ -1,8 +1,8 @@
 -- The items of XDR (RFC 4506): the one spelling of each value, and the reading of each item.
-use Rattle.std.specs.Prelude.{ℕ, ◌+◌, ◌-◌, ◌%◌, Bool, true, false, not, ◌==◌, nat_lt, nat_le, List, [], ◌++◌, length, take, drop, replicate, position, Option, Some, None, Result, Ok, if◌then◌else◌}
+use Rattle.std.specs.Prelude.{ℕ, ◌+◌, ◌-◌, ◌%◌, Bool, true, false, not, ◌==◌, nat_lt, nat_le, List, [], ◌++◌, length, take, drop, replicate, position, Option, Some, None, Result, Ok, Err, if◌then◌else◌}
 use Rattle.std.specs.List.{concat, flat_map}
 use Rattle.byteorder.specs.Endian.{big_bytes, big_number}
-use Rattle.nm_xdr.specs.Fields.{short, padding, bool, too_long, enum, Fault, Reading, ◌>>=◌, fault_at, field, made, tested, whole, rows_at}
+use Rattle.nm_xdr.specs.Fields.{short, padding, bool, too_long, enum, Fault, Reading, ◌>>=◌, fault_at, field, made, tested, whole, rows_at, all_of, item}
 
 -- ---- Spelling
 
@@ -84,6 +84,43 @@ opaque_at max = whole (field (length_at max) fixed_at)
 -- A count of at most max, and that many rows, each read knowing those before it.
 unfoldable pub counted_at : {X : Type 0} → ℕ → (List X → Reading X) → Reading (List X)
 counted_at max row = field (length_at max) (λ n. rows_at row n [])
+
+-- A length of at most max, and that many bytes with their padding: missing as a whole, whatever is wrong with them.
+unfoldable pub bytes_at : ℕ → Reading (List ℕ)
+bytes_at max = item (opaque_at max)
+
+-- A word that is this number.
+unfoldable pub only_at : ℕ → Reading ℕ
+only_at number = tested (λ n. n == number) enum word_at
+
+-- A word that is 0 or 1, and says which of two arms follows.
+unfoldable pub choice_at : Reading ℕ
+choice_at = tested (λ n. nat_le n 1) enum word_at
+
+-- A count of at most max, and so many words.
+unfoldable pub words_at : ℕ → Reading (List ℕ)
+words_at max = counted_at max (λ _. word_at)
+
+-- ---- A byte string whose inside is read, to its end
+
+-- A fault of the inside, as one of the bytes around it, of which so many follow the inside.
+abbrev pub moved : ℕ → Fault → Fault
+moved behind f = record { flaw = f.flaw; left = f.left + behind }
+
+-- What all of the inside is, with the bytes behind the byte string.
+abbrev pub inside_as : {X : Type 0} → ℕ → List ℕ → Result X Fault → Result (X × List ℕ) Fault
+inside_as behind rest (Ok x) = Ok (x, rest)
+inside_as behind rest (Err f) = Err (moved behind f)
+
+-- These bytes are the inside, all of them, and behind them and their padding comes the rest.
+abbrev pub inside : {X : Type 0} → Reading X → List ℕ → Reading X
+inside read bytes rest = inside_as (padding_of (length bytes) + length rest) rest (all_of read bytes)
+
+-- A byte string of at most max bytes, all of which are read as this. A fault of the inside is told where it stands.
+unfoldable pub inside_at : {X : Type 0} → ℕ → Reading X → Reading X
+inside_at max read = field (bytes_at max) (inside read)
+
+-- ---- Values that may be absent, and enumerations
 
 -- The value that such a flag speaks of.
 abbrev pub present : {X : Type 0} → Reading X → Bool → Reading (Option X)

@@ -1,5 +1,5 @@
 -- Places. Reading tells a fault by how many bytes are left from there to the end of the input, and a cursor tells it by its place: how many bytes come before it.
-use Rattle.std.specs.Prelude.{◌≡◌, ◌≢◌, ℕ, ◌+◌, ◌-◌, ◌≤◌, List, ◌++◌, length, drop, Result, Ok, Err}
+use Rattle.std.specs.Prelude.{◌≡◌, ◌≢◌, ℕ, ◌+◌, ◌-◌, ◌<◌, ◌≤◌, List, [], ◌++◌, length, take, drop, Result, Ok, Err}
 use Rattle.nm_xdr.specs.declared.fault.XdrFault.{XdrFault}
 use Rattle.nm_xdr.specs.declared.fault.XdrFault.TheVariants as told
 use Rattle.nm_xdr.specs.Fields.{short, padding, bool, too_long, enum, Fault, Reading, IsBytes}
@@ -52,3 +52,13 @@ WentPast {X} spell Fits from (Err e) to = (x : X) (rest : List ℕ) → Fits x �
 abbrev pub IsExact : {X : Type 0} → Reading X → (X → List ℕ) → (X → Type 0) → Type 0
 IsExact {X} read spell Fits = (from to : Spot) (result : Result X XdrFault) → IsBytes from.rest → Gives (λ x. x) read from result to
     → WentPast spell Fits from result to
+
+-- A call that wants nothing to be left answers so, or the fault at the first byte that is, with the number of such bytes.
+abbrev pub Ends : Spot → Result Unit XdrFault → Type 0
+Ends at (Ok _) = at.rest ≡ []
+Ends at (Err e) = (0 < length at.rest) × (fault_of (end_of at) e ≡ record { flaw = too_long (length at.rest) 0; left = length at.rest }) × (place_of e ≤ end_of at)
+
+-- What a put of several items leaves: these bytes behind what was put before. After want of memory that still stands in front.
+abbrev pub Puts : {E : Type 0} → List ℕ → List ℕ → Result Unit E → List ℕ → Type 0
+Puts old bytes (Ok _) new = new ≡ old ++ bytes
+Puts old bytes (Err _) new = take (length old) new ≡ old

@@ -1,9 +1,9 @@
 //! Taking items off the front of bytes.
 
-ghost use Rattle.std.specs.Prelude.{◌≡◌, ◌≤◌, ◌<◌, ◌==◌, not, length, position, OnOk, OnErr};
-ghost use Rattle.nm_xdr.specs.Fields.{field};
-ghost use Rattle.nm_xdr.specs.Items.{word_at, hyper_at, flag_at, fixed_at, length_at, opaque_at, padding_of};
-ghost use Rattle.nm_xdr.specs.Places.{after, Gives};
+ghost use Rattle.std.specs.Prelude.{◌≡◌, ◌+◌, ◌^◌, ◌≤◌, ◌<◌, ◌==◌, [], not, length, position, IfOk, OnOk, OnErr};
+ghost use Rattle.nm_xdr.specs.Fields.{field, pass, rows_at};
+ghost use Rattle.nm_xdr.specs.Items.{word_at, hyper_at, flag_at, fixed_at, length_at, opaque_at, bytes_at, only_at, choice_at, words_at, padding_of};
+ghost use Rattle.nm_xdr.specs.Places.{after, end_of, Gives, Ends};
 
 use crate::XdrFault;
 use byteorder::{BigEndian, ByteOrder};
@@ -38,6 +38,16 @@ impl<'a> Cursor<'a> {
         Cursor {
             rest: bytes,
             place: 0,
+        }
+    }
+
+    /// A second cursor at the same place: a reader of several items puts it back where one of them is refused.
+    pub fn fork(&self) -> Cursor<'a>
+        ensures { result ≡ self.now }
+    {
+        Cursor {
+            rest: self.rest,
+            place: self.place,
         }
     }
 
@@ -135,10 +145,7 @@ impl<'a> Cursor<'a> {
         ensures unmoved { OnErr result (self.new ≡ self.old) }
     {
         let at = self.place;
-        let mut cursor = Cursor {
-            rest: self.rest,
-            place: at,
-        };
+        let mut cursor = self.fork();
         match cursor.take_counted_bytes(max) {
             Ok(bytes) => {
                 *self = cursor;
@@ -166,6 +173,123 @@ impl<'a> Cursor<'a> {
         }
         self.pass(4);
         Ok(got)
+    }
+
+    /// Takes what [`Cursor::take_opaque`] does. Whatever is wrong with it, the fault is Short at its length.
+    #[tactic(auto, unfolding(crate::specs::Items::bytes_at))]
+    pub fn take_bytes(&mut self, max: u32) -> Result<&'a [u8], XdrFault>
+        ensures item { Gives (λ bytes. bytes.now) (bytes_at max) self.old result self.new }
+        ensures unmoved { OnErr result (self.new ≡ self.old) }
+    {
+        match self.take_opaque(max) {
+            Ok(bytes) => Ok(bytes),
+            Err(_) => Err(XdrFault::Short { at: self.place }),
+        }
+    }
+
+    /// Takes a byte string of at most `max` bytes, and gives a cursor over its inside. A place that this tells
+    /// is a place of the whole input.
+    ///
+    /// Short, at the length, whatever is wrong with the byte string itself.
+    #[tactic(auto, using(crate::proofs::ByteLaws::bytes_behind))]
+    pub fn take_inside(&mut self, max: u32) -> Result<Cursor<'a>, XdrFault>
+        ensures item { Gives (λ inside. inside.rest) (bytes_at max) self.old result self.new }
+        ensures place { IfOk result (λ inside. inside.place ≡ self.old.place + 4) }
+        ensures end { IfOk result (λ inside. end_of inside + padding_of (length inside.rest) ≡ self.new.place) }
+        ensures unmoved { OnErr result (self.new ≡ self.old) }
+    {
+        let place = self.place;
+        let rest = self.take_bytes(max)?;
+        Ok(Cursor {
+            rest,
+            place: place + 4,
+        })
+    }
+
+    /// Takes a number of 4 bytes that has to be this one: a constant of the layout.
+    ///
+    /// Short where fewer than 4 bytes are left, Enum for any other number.
+    #[tactic(auto, unfolding(crate::specs::Items::only_at))]
+    pub fn take_only(&mut self, number: u32) -> Result<u32, XdrFault>
+        ensures item { Gives (λ n. n) (only_at number) self.old result self.new }
+        ensures unmoved { OnErr result (self.new ≡ self.old) }
+    {
+        let got = self.word()?;
+        if got != number {
+            return Err(XdrFault::Enum {
+                at: self.place,
+                got,
+            });
+        }
+        self.pass(4);
+        Ok(got)
+    }
+
+    /// Takes a number of 4 bytes that is 0 or 1: which of two arms follows.
+    ///
+    /// Short where fewer than 4 bytes are left, Enum for a greater number.
+    #[tactic(auto, unfolding(crate::specs::Items::choice_at))]
+    pub fn take_choice(&mut self) -> Result<u32, XdrFault>
+        ensures item { Gives (λ n. n) choice_at self.old result self.new }
+        ensures unmoved { OnErr result (self.new ≡ self.old) }
+    {
+        let got = self.word()?;
+        if 1 < got {
+            return Err(XdrFault::Enum {
+                at: self.place,
+                got,
+            });
+        }
+        self.pass(4);
+        Ok(got)
+    }
+
+    /// Takes a count of at most `max` and so many numbers of 4 bytes, and keeps none of them.
+    ///
+    /// TooLong for a greater count, and Short where an item isn't all there.
+    pub fn pass_words(&mut self, max: u32) -> Result<(), XdrFault>
+        ensures item { Gives (λ u. u) (pass (words_at max)) self.old result self.new }
+        ensures unmoved { OnErr result (self.new ≡ self.old) }
+    {
+        let start = self.fork();
+        let passed = self.pass_counted(max);
+        if passed.is_err() {
+            *self = start;
+        }
+        passed
+    }
+
+    /// That no bytes are left: TooLong, with the limit 0 and at the first of them, where some are.
+    pub fn end(&self) -> Result<(), XdrFault>
+        ensures { Ends self.now result }
+    {
+        if self.rest.is_empty() {
+            return Ok(());
+        }
+        Err(XdrFault::TooLong {
+            at: self.place,
+            got: self.rest.len() as u64,
+            max: 0,
+        })
+    }
+
+    // A count and so many numbers, one after the other.
+    #[tactic(auto, unfolding(crate::specs::Items::words_at, crate::specs::Items::counted_at))]
+    fn pass_counted(&mut self, max: u32) -> Result<(), XdrFault>
+        ensures { Gives (λ u. u) (pass (words_at max)) self.old result self.new }
+    {
+        let count = self.take_count(max)?;
+        self.pass_each(count)
+    }
+
+    #[tactic(auto, using(crate::proofs::PassLaws::word_missing))]
+    fn pass_each(&mut self, count: u32) -> Result<(), XdrFault>
+        ensures { Gives (λ u. u) (pass (rows_at (λ _. word_at) count [])) self.old result self.new }
+    {
+        for _ in 0..count {
+            self.take_u32()?;
+        }
+        Ok(())
     }
 
     // A length and its bytes, one after the other.

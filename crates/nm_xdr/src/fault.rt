@@ -47,6 +47,19 @@ pub enum XdrFault {
 }
 
 impl XdrFault {
+    /// The place that it tells.
+    pub fn place(self) -> usize
+        ensures { result ≡ place_of self }
+    {
+        match self {
+            XdrFault::Short { at }
+            | XdrFault::Padding { at }
+            | XdrFault::Bool { at, .. }
+            | XdrFault::TooLong { at, .. }
+            | XdrFault::Enum { at, .. } => at,
+        }
+    }
+
     // A fault in a part of an item that begins at this place, as a fault of the item: one that ends too soon
     // is missing as a whole.
     pub(crate) fn of_whole(self, start: usize) -> XdrFault

@@ -3,7 +3,7 @@
 ghost use Rattle.std.specs.Prelude.{ℕ, ◌≡◌, ◌<◌, ◌≤◌, ◌^◌, ⊤, length, All, IfSome};
 ghost use Rattle.nm_xdr.specs.Fields.{IsItem, OneSpelling, IsShortWhereCut};
 ghost use Rattle.nm_xdr.specs.Places.{IsExact};
-ghost use Rattle.nm_xdr.specs.Items.{word, hyper, flag, fixed, opaque, counted, optional, word_at, hyper_at, flag_at, fixed_at, opaque_at, counted_at, optional_at};
+ghost use Rattle.nm_xdr.specs.Items.{word, hyper, flag, fixed, opaque, counted, optional, word_at, hyper_at, flag_at, fixed_at, opaque_at, counted_at, optional_at, bytes_at, only_at, choice_at, inside_at};
 
 /// What is read of an item is spelled so, and what is spelled so is read, whatever follows.
 pub fn items_are_read_as_spelled()
@@ -29,6 +29,15 @@ pub fn rows_are_read_as_spelled()
     ensures rows { (max : ℕ) → max < 2 ^ 32 → IsItem (counted_at max (λ _. word_at)) (counted word)
         (λ xs. (length xs ≤ max) × All (λ n. n < 2 ^ 32) xs) }
     ensures absent { IsItem (optional_at word_at) (optional word) (λ o. IfSome o (λ n. n < 2 ^ 32)) }
+{}
+
+/// So are the items that several messages share: byte strings that are told at their first byte, wanted numbers, choices
+/// of two, and byte strings whose inside is read to its end, here of a number.
+pub fn shared_items_are_read_as_spelled()
+    ensures bytes { (max : ℕ) → max < 2 ^ 32 → IsItem (bytes_at max) opaque (λ bytes. length bytes ≤ max) }
+    ensures wanted { (n : ℕ) → n < 2 ^ 32 → IsItem (only_at n) word (λ k. k ≡ n) }
+    ensures choice { IsItem choice_at word (λ n. n ≤ 1) }
+    ensures inside { (max : ℕ) → max < 2 ^ 32 → IsItem (inside_at max word_at) (λ n. opaque (word n)) (λ n. (n < 2 ^ 32) × (length (word n) ≤ max)) }
 {}
 
 /// No spelling of an item is the beginning of another of its kind.

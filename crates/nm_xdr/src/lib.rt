@@ -15,13 +15,18 @@
 //!   whatever follows.
 //! - No spelling of an item is the beginning of another of its kind.
 //! - Takes need no memory.
+//! - A reader of several items goes back to where it began by [`Cursor::fork`], and a put of several items by
+//!   [`Writer::cut_back`]. A byte string's inside is read by a cursor of its own, whose places are those of the whole
+//!   input, and put item by item before its length is known.
 //!
 //! `specs/Items` has the spelling and the reading of each item, as functions on lists of bytes, and
 //! `specs/Fields` the words by which a layout of several items is put together from them. `specs/Places` says
 //! what a call that reads from a cursor gives, which is the contract of each take and of every reader above.
 //!
 //! `proofs/FieldLaws` has one step for each word of `Fields`, and `proofs/ItemLaws` one fact for each item:
-//! with these the reading and the spelling of a layout are shown to belong together by one line a field.
+//! with these the reading and the spelling of a layout are shown to belong together by one line a field. `proofs/ByteLaws`
+//! has those of the items that several messages share, and the steps of a reader of an inside; `proofs/PutLaws` says that what
+//! was put before still stands in front.
 #![tactic(auto)]
 
 mod cursor;
@@ -33,7 +38,7 @@ pub use cursor::Cursor;
 pub use fault::XdrFault;
 pub use laws::{
     cut_items_are_short, items_are_read_as_spelled, one_spelling, rows_are_read_as_spelled,
-    takes_are_exact,
+    shared_items_are_read_as_spelled, takes_are_exact,
 };
 pub use nm_memory::Memory;
 pub use writer::Writer;

@@ -5,7 +5,7 @@ use Rattle.nm_args.proofs.reading.read_ops.Goals as goal
 
 pub returns-in_err-op : goal.returns-in_err-op
 returns-in_err-op c =
-    let p = err_from_is_err_and c.from_residual.result c.from_residual.ensures.1 in
+    let p = err_from_is_err_and c.from_residual-in_err-op.result c.from_residual-in_err-op.ensures.1 in
     rw (p.1, p.2) (op_missing c.args.count c.loop.counter c.loop.ops c.loop.cursor c.args.cursor.now c.in_err-op.field-0.0 c.loop-test.true c.in_err-op.ensures c.loop.invariant)
 
 pub returns-in-End : goal.returns-in-End
@@ -19,7 +19,7 @@ loop-preserved c =
 
 pub returns-then-left-gt0 : goal.returns-then-left-gt0
 returns-then-left-gt0 c =
-    rw c.place.ensures (ops_left_over c.args.count c.loop.counter c.loop.ops c.loop.cursor c.args.cursor.now c.loop-test.false (omega arith) c.loop.invariant)
+    rw c.left_over.ensures (ops_left_over c.args.count c.loop.counter c.loop.ops c.loop.cursor c.args.cursor.now c.loop-test.false (omega arith) c.loop.invariant)
 
 pub returns : goal.returns
 returns c = ops_clean c.args.count c.loop.counter c.loop.ops c.loop.cursor c.args.cursor.now c.loop-test.false (omega arith) c.loop.invariant

@@ -1,6 +1,6 @@
 use Rattle.std.proofs.lemmas.Result.{err_from_is_err_and}
 use Rattle.nm_attrs.specs.Attributes.{location_at}
-use Rattle.nm_attrs.proofs.RowLaws.{row_taken, rows_taken, row_missing}
+use Rattle.nm_items.proofs.RowLaws.{row_taken, rows_taken, row_missing}
 use Rattle.nm_attrs.proofs.reading.take_each_location.Goals as goal
 
 pub returns-in_err-take_location : goal.returns-in_err-take_location

@@ -1,6 +1,5 @@
 use Rattle.std.proofs.Common.{◌≡◌, ◌-◌, []}
 use Rattle.nm_xdr.specs.Fields.{rows_at}
-use Rattle.nm_xdr.specs.Items.{word_at, opaque_at}
 use Rattle.nm_xdr.specs.Places.{end_of}
 use Rattle.nm_attrs.specs.Attributes.{location_at}
 use Rattle.nm_attrs.proofs.reading.take_each_location.Given as goal

@@ -1,6 +1,6 @@
 use Rattle.std.proofs.lemmas.Result.{err_from_is_err_and}
 use Rattle.nm_xdr.specs.Items.{opaque_at}
-use Rattle.nm_attrs.proofs.RowLaws.{row_taken, rows_taken, row_missing}
+use Rattle.nm_items.proofs.RowLaws.{row_taken, rows_taken, row_missing}
 use Rattle.nm_attrs.proofs.reading.take_names.Goals as goal
 
 pub returns-in_err-take_name : goal.returns-in_err-take_name

@@ -1,8 +1,7 @@
 use Rattle.std.proofs.Common.{◌≡◌, ◌-◌, []}
 use Rattle.nm_xdr.specs.Fields.{rows_at}
-use Rattle.nm_xdr.specs.Items.{word_at, opaque_at}
+use Rattle.nm_xdr.specs.Items.{opaque_at}
 use Rattle.nm_xdr.specs.Places.{end_of}
-use Rattle.nm_attrs.specs.Attributes.{location_at}
 use Rattle.nm_attrs.proofs.reading.take_names.Given as goal
 
 -- what is left to read, behind what was read, is what is read of all

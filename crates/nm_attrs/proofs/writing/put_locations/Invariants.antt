@@ -1,6 +1,5 @@
 use Rattle.std.proofs.Common.{◌≡◌, ◌++◌, take}
 use Rattle.std.specs.List.{flat_map}
-use Rattle.nm_xdr.specs.Items.{opaque}
 use Rattle.nm_attrs.specs.Attributes.{location}
 use Rattle.nm_attrs.proofs.writing.put_locations.Given as goal
 

@@ -1,7 +1,6 @@
 use Rattle.std.proofs.Common.{◌≡◌, ◌++◌, take}
 use Rattle.std.specs.List.{flat_map}
 use Rattle.nm_xdr.specs.Items.{opaque}
-use Rattle.nm_attrs.specs.Attributes.{location}
 use Rattle.nm_attrs.proofs.writing.put_names.Given as goal
 
 -- those so far are put

@@ -1,5 +1,5 @@
 use Rattle.std.proofs.lemmas.Result.{err_from_is_err_and}
-use Rattle.nm_attrs.proofs.RowLaws.{row_taken, rows_taken, row_missing}
+use Rattle.nm_items.proofs.RowLaws.{row_taken, rows_taken, row_missing}
 use Rattle.nm_results.specs.Results.{result_at}
 use Rattle.nm_results.proofs.reading.take_each.Goals as goal
 

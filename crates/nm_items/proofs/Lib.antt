@@ -1,0 +1,2 @@
+pub mod PartItems
+pub mod RowLaws
