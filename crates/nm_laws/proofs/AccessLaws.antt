@@ -8,17 +8,18 @@ use Rattle.std.proofs.lemmas.Bool.Decides.{nat_tests}
 use Rattle.std.proofs.lemmas.Nat.{and_comm}
 use Rattle.std.proofs.lemmas.Nat.Bits.{bit_at_and, bit_at-zero, and_pow}
 use Rattle.nm_types.specs.Owners.{same_owner}
+use Rattle.nm_types.specs.Parties.{Party, same_party}
 use Rattle.nm_rules.specs.Attributes.{has_size}
-use Rattle.nm_rules.specs.Checks.{Stop, first}
+use Rattle.nm_rules.specs.Checks.{Stop, first, refuse_if}
 use Rattle.nm_rules.specs.Checks.Stop.{Refuse, Repeat}
-use Rattle.nm_rules.specs.Data.{read_checks, write_checks, setattr_checks, size_checks, mode_checks, stale_stop, read_denied, write_denied}
+use Rattle.nm_rules.specs.Data.{read_checks, write_checks, setattr_checks, size_checks, mode_checks, stale_stop, unresolved_stop, read_denied, write_denied}
 use Rattle.nm_rules.specs.LockRows.{lock_at}
 use Rattle.nm_rules.specs.Opens.{is_denied}
 use Rattle.nm_rules.specs.Past.{Past}
 use Rattle.nm_rules.specs.Readings.{Share, share_of, row_share, AreCompatible}
 use Rattle.nm_rules.specs.Seen.{Seen, seen, look}
 use Rattle.nm_rules.specs.Shares.{meets, open_at, open_of, is_open_of}
-use Rattle.nm_rules.specs.Stateids.{open_named, lock_named, is_owner_confirmed, seqid_stop, given_seqid, mode_stop, stateid_stop, live_stop, access_of, opened_access, lock_stop, lock_live_stop, any_stop}
+use Rattle.nm_rules.specs.Stateids.{any_unresolved, is_own, is_own_lock, open_named, lock_named, resolved, is_owner_confirmed, seqid_stop, given_seqid, mode_stop, stateid_stop, live_stop, access_of, opened_access, lock_stop, lock_live_stop, any_stop}
 use Rattle.nm_rules.specs.Answer.{answer_to, reply_by, refusal_value, is_denial, checks, IsLegal}
 use Rattle.nm_rules.specs.Sound.{IsSound}
 use Rattle.nm_types.specs.declared.args.ReadArgs.{ReadArgs}
@@ -42,12 +43,16 @@ use Rattle.nm_types.specs.declared.status.OpStatus.{OpStatus}
 use Rattle.nm_types.specs.declared.status.OpStatus.TheVariants.{BadStateId, Locked, OpenMode}
 use Rattle.nm_rules.proofs.Apart.{apart_in, none_in, open_of-in, open_of-none}
 use Rattle.nm_rules.proofs.Classes.{IsFree, all_free, first_repeats, or_none, refuse_if-none}
+use Rattle.nm_rules.proofs.KnownLaws.{lock_all_at}
 use Rattle.nm_rules.proofs.Legal.{sound-seen}
 use Rattle.nm_rules.proofs.LockRowLaws.{lock_at-counter, same_number}
 use Rattle.nm_rules.proofs.OpenRows.{IsIn, open_at-in, in-open_at}
-use Rattle.nm_rules.proofs.OwnerLemmas.{same_owner-Decides}
+use Rattle.nm_rules.proofs.OwnerLemmas.{same_owner-Decides, same_party-Decides}
 use Rattle.nm_rules.proofs.ShareLaws.{share-seen, shares_are_compatible}
 use Rattle.nm_laws.specs.DataReadings.{opener_of, HasAccess, Permits, IsLetIn, IsFreeFor, MayRead, MayWrite}
+use Rattle.nm_laws.specs.StateidRows.{all_are_opened, is_opened_by}
+use Rattle.nm_laws.proofs.ClosedCounters.{closed_is_no_lock}
+use Rattle.nm_laws.proofs.StateidLives.{locks_are_opened}
 use Rattle.nm_laws.proofs.DataLaws.{AreTheirs, LockIs, OpenIs, IsOnFile, all-at, theirs-seen}
 
 -- ---- bits
@@ -129,14 +134,15 @@ permitted k (Some a) (Some b) has compatible =
 
 -- ---- who is let in
 
-let_in : (fs : ℕ) (grants : Bool) (es : Past) (counter file k : ℕ) (row : OpenRow) → IsLegal fs grants es
-    → open_at row.counter (seen fs grants es).opens ≡ Some row → row.file ≡ file → meets (2 ^ k) row.access ≡ true → opener_of es counter ≡ Some row.owner
-    → IsLetIn es counter file (2 ^ k)
-let_in fs grants es counter file k row legal live its_file has its =
+let_in : (fs : ℕ) (grants : Bool) (es : Past) (caller : Option Party) (counter file k : ℕ) (row : OpenRow) → IsLegal fs grants es
+    → caller ≡ Some row.owner.instance → open_at row.counter (seen fs grants es).opens ≡ Some row → row.file ≡ file → meets (2 ^ k) row.access ≡ true
+    → opener_of es counter ≡ Some row.owner → IsLetIn es caller counter file (2 ^ k)
+let_in fs grants es caller counter file k row legal own live its_file has its =
     let share : share_of es row.owner file ≡ Some (row_share row) = ap (share_of es row.owner) (sym its_file) ∙ share_live fs grants es row legal live in
     let can : HasAccess (share_of es row.owner file) (2 ^ k) = subst (λ o. HasAccess o (2 ^ k)) (sym share) has in
     record {
       owner = row.owner;
+      own = own;
       its = its;
       can = can;
       others = λ other ne. permitted k (share_of es row.owner file) (share_of es other file) can (shares_are_compatible fs grants es row.owner other file legal ne);
@@ -179,18 +185,45 @@ unfolding lock_live_stop lock_stop
 lock_is_fit s file k stateid row goes =
     fit_by true (row.file == file) file row.file k (opened_access s row) (seqid_stop row.seqid (given_seqid stateid)) refl goes
 
-let_in_lock : (fs : ℕ) (grants : Bool) (es : Past) (counter file k : ℕ) (row : LockRow) → IsLegal fs grants es → AreTheirs (look (seen fs grants es)) (opener_of es)
+-- ---- whose stateid it is
+
+own_open : (caller : Option Party) (row : OpenRow) → is_own caller row ≡ true → caller ≡ Some row.owner.instance
+own_open None row own = absurd (false≢true own)
+own_open (Some party) row own = ap Some ((same_party-Decides party row.owner.instance).0 own)
+
+own_lock : (caller : Option Party) (row : LockRow) → is_own_lock caller row ≡ true → caller ≡ Some row.owner.instance
+own_lock None row own = absurd (false≢true own)
+own_lock (Some party) row own = ap Some ((same_party-Decides party row.owner.instance).0 own)
+
+is_so : (b : Bool) (status : OpStatus) → refuse_if (not b) status ≡ None → b ≡ true
+is_so true status goes = refl
+is_so false status goes = cc
+
+-- the open with which a lock stateid was made is of the same instance
+opened_party : (fs : ℕ) (grants : Bool) (es : Past) (k : ℕ) (row : LockRow) (opened : OpenRow) → IsLegal fs grants es → lock_at k (seen fs grants es).locks ≡ Some row
+    → open_at row.opened (seen fs grants es).opens ≡ Some opened → opened.owner.instance ≡ row.owner.instance
+unfolding all_are_opened
+opened_party fs grants es k row opened legal found there =
+    let all = locks_are_opened fs grants es legal in
+    let is : is_opened_by row (open_at row.opened (seen fs grants es).opens) ≡ true =
+    lock_all_at (λ x. is_opened_by x (open_at x.opened (seen fs grants es).opens)) k (seen fs grants es).locks row all found in
+    (same_party-Decides opened.owner.instance row.owner.instance).0
+    (and_parts (opened.file == row.file) (same_party opened.owner.instance row.owner.instance) (ap (is_opened_by row) (sym there) ∙ is)).1
+
+let_in_lock : (fs : ℕ) (grants : Bool) (es : Past) (caller : Option Party) (counter file k : ℕ) (row : LockRow) → IsLegal fs grants es
+    → AreTheirs (look (seen fs grants es)) (opener_of es) → caller ≡ Some row.owner.instance
     → lock_at counter (seen fs grants es).locks ≡ Some row → row.file ≡ file → (o : Option OpenRow) → open_at row.opened (seen fs grants es).opens ≡ o
-    → meets (2 ^ k) (access_of o) ≡ true → IsLetIn es counter file (2 ^ k)
+    → meets (2 ^ k) (access_of o) ≡ true → IsLetIn es caller counter file (2 ^ k)
 unfolding look
-let_in_lock fs grants es counter file k row legal theirs found its None none has = absurd (false≢true (sym (no_access (2 ^ k)) ∙ has))
-let_in_lock fs grants es counter file k row legal theirs found its (Some opened) there has =
+let_in_lock fs grants es caller counter file k row legal theirs own found its None none has = absurd (false≢true (sym (no_access (2 ^ k)) ∙ has))
+let_in_lock fs grants es caller counter file k row legal theirs own found its (Some opened) there has =
     let s : Seen = seen fs grants es in
     let is : LockIs (λ c. open_at c s.opens) s.last (opener_of es) row = all-at _ counter s.locks row theirs.locks found in
     let its_counter : opened.counter ≡ row.opened = (open_at-in row.opened s.opens opened there).1 in
     let on : opened.file ≡ row.file = subst (IsOnFile row.file) there is.file in
     let whose : opener_of es row.opened ≡ Some opened.owner = subst (OpenIs (opener_of es) row.opened) there (theirs.opens row.opened) in
-    let_in fs grants es counter file k opened legal (ap (λ c. open_at c s.opens) its_counter ∙ there) (on ∙ its) has
+    let_in fs grants es caller counter file k opened legal (own ∙ ap Some (sym (opened_party fs grants es counter row opened legal found there)))
+    (ap (λ c. open_at c s.opens) its_counter ∙ there) (on ∙ its) has
     (ap (opener_of es) (sym (lock_at-counter counter s.locks row found)) ∙ is.same ∙ whose)
 
 -- a stateid that isn't live is stopped
@@ -198,10 +231,23 @@ dead_lock : (s : Seen) (file : ℕ) (stateid : StateRef) (access : ℕ) → lock
 unfolding lock_live_stop
 dead_lock s file stateid access goes = cc
 
-let_in_named : (fs : ℕ) (grants : Bool) (es : Past) (file k : ℕ) (id : StateId) → IsLegal fs grants es
-    → stale_stop (seen fs grants es) file (Named id) (2 ^ k) ≡ None → IsLetIn es id.counter file (2 ^ k)
-unfolding stale_stop open_named lock_named any_stop look
-let_in_named fs grants es file k id legal goes = by_fs (id.fs == s.fs) goes
+-- no closed open has the counter of a lock owner
+unshadowed : (fs : ℕ) (grants : Bool) (es : Past) (caller : Option Party) (k : ℕ) (row : LockRow) → IsLegal fs grants es → lock_at k (seen fs grants es).locks ≡ Some row
+    → any_unresolved caller (open_at k (seen fs grants es).closed) (Some row) ≡ None → caller ≡ Some row.owner.instance
+unshadowed fs grants es caller k row legal found stands = by_closed (open_at k (seen fs grants es).closed) refl stands
+  where
+    never : None ≡ Some row → ⊥
+    never e = cc
+
+    by_closed : (o : Option OpenRow) → open_at k (seen fs grants es).closed ≡ o → any_unresolved caller o (Some row) ≡ None → caller ≡ Some row.owner.instance
+    by_closed None none stands = own_lock caller row (is_so (is_own_lock caller row) BadStateId stands)
+    by_closed (Some x) closed stands = absurd (never (sym (closed_is_no_lock fs grants es k x legal closed) ∙ found))
+
+let_in_named : (fs : ℕ) (grants : Bool) (es : Past) (caller : Option Party) (file k : ℕ) (id : StateId) → IsLegal fs grants es
+    → unresolved_stop (seen fs grants es) caller (Named id) ≡ None
+    → stale_stop (seen fs grants es) file (Named id) (2 ^ k) ≡ None → IsLetIn es caller id.counter file (2 ^ k)
+unfolding unresolved_stop resolved stale_stop open_named lock_named any_stop look
+let_in_named fs grants es caller file k id legal stands goes = by_fs (id.fs == s.fs) stands goes
   where
     s : Seen
     s = seen fs grants es
@@ -209,24 +255,30 @@ let_in_named fs grants es file k id legal goes = by_fs (id.fs == s.fs) goes
     theirs : AreTheirs (look s) (opener_of es)
     theirs = theirs-seen fs grants es legal
 
-    by_lock : (o : Option LockRow) → lock_at id.counter s.locks ≡ o → lock_live_stop s file (Named id) (2 ^ k) o ≡ None → IsLetIn es id.counter file (2 ^ k)
-    by_lock None none goes = absurd (dead_lock s file (Named id) (2 ^ k) goes)
-    by_lock (Some row) found goes =
+    by_lock : (o : Option LockRow) → lock_at id.counter s.locks ≡ o → any_unresolved caller (open_at id.counter s.closed) o ≡ None
+        → lock_live_stop s file (Named id) (2 ^ k) o ≡ None → IsLetIn es caller id.counter file (2 ^ k)
+    by_lock None none stands goes = absurd (dead_lock s file (Named id) (2 ^ k) goes)
+    by_lock (Some row) found stands goes =
         let fit : IsFit file (2 ^ k) row.file (opened_access s row) = lock_is_fit s file k (Named id) row goes in
-        let_in_lock fs grants es id.counter file k row legal theirs found fit.same (open_at row.opened s.opens) refl fit.has
+        let_in_lock fs grants es caller id.counter file k row legal theirs (unshadowed fs grants es caller id.counter row legal found stands) found fit.same
+        (open_at row.opened s.opens) refl fit.has
 
     by_open : (o : Option OpenRow) → open_at id.counter s.opens ≡ o → (l : Option LockRow) → lock_at id.counter s.locks ≡ l
-        → any_stop s file (Named id) (2 ^ k) o l ≡ None → IsLetIn es id.counter file (2 ^ k)
-    by_open None none l found goes = by_lock l found goes
-    by_open (Some row) live l found goes =
+        → any_unresolved caller (option_or o (open_at id.counter s.closed)) l ≡ None
+        → any_stop s file (Named id) (2 ^ k) o l ≡ None → IsLetIn es caller id.counter file (2 ^ k)
+    by_open None none l found stands goes = by_lock l found stands goes
+    by_open (Some row) live l found stands goes =
         let fit : IsFit file (2 ^ k) row.file row.access = open_is_fit s file k (Named id) row goes in
-        let_in fs grants es id.counter file k row legal (ap (λ c. open_at c s.opens) (open_at-in id.counter s.opens row live).1 ∙ live) fit.same fit.has
+        let_in fs grants es caller id.counter file k row legal (own_open caller row (is_so (is_own caller row) BadStateId stands))
+        (ap (λ c. open_at c s.opens) (open_at-in id.counter s.opens row live).1 ∙ live) fit.same fit.has
         (subst (OpenIs (opener_of es) id.counter) live (theirs.opens id.counter))
 
-    by_fs : (b : Bool) → any_stop s file (Named id) (2 ^ k) (cond b (open_at id.counter s.opens) None) (cond b (lock_at id.counter s.locks) None) ≡ None
-        → IsLetIn es id.counter file (2 ^ k)
-    by_fs true goes = by_open (open_at id.counter s.opens) refl (lock_at id.counter s.locks) refl goes
-    by_fs false goes = absurd (dead_lock s file (Named id) (2 ^ k) goes)
+    by_fs : (b : Bool)
+        → any_unresolved caller (cond b (option_or (open_at id.counter s.opens) (open_at id.counter s.closed)) None) (cond b (lock_at id.counter s.locks) None) ≡ None
+        → any_stop s file (Named id) (2 ^ k) (cond b (open_at id.counter s.opens) None) (cond b (lock_at id.counter s.locks) None) ≡ None
+        → IsLetIn es caller id.counter file (2 ^ k)
+    by_fs true stands goes = by_open (open_at id.counter s.opens) refl (lock_at id.counter s.locks) refl stands goes
+    by_fs false stands goes = absurd (dead_lock s file (Named id) (2 ^ k) goes)
 
 -- where no open denies it, nobody does
 free_for : (fs : ℕ) (grants : Bool) (es : Past) (file access : ℕ) → IsLegal fs grants es → is_denied access file (seen fs grants es).opens ≡ false
@@ -317,39 +369,41 @@ size_goes s call verdict args word words its sized it =
 -- ---- the laws
 
 -- a write by a stateid that nothing stops is let in
-may_write : (fs : ℕ) (grants : Bool) (es : Past) (file : ℕ) (stateid : StateRef) → IsLegal fs grants es → stale_stop (seen fs grants es) file stateid 2 ≡ None
-    → write_denied (seen fs grants es) file stateid ≡ false → MayWrite es file stateid
+may_write : (fs : ℕ) (grants : Bool) (es : Past) (caller : Option Party) (file : ℕ) (stateid : StateRef) → IsLegal fs grants es
+    → unresolved_stop (seen fs grants es) caller stateid ≡ None → stale_stop (seen fs grants es) file stateid 2 ≡ None
+    → write_denied (seen fs grants es) file stateid ≡ false → MayWrite es caller file stateid
 unfolding write_denied
-may_write fs grants es file Zeros legal stale free = free_for fs grants es file 2 legal free
-may_write fs grants es file Ones legal stale free = free_for fs grants es file 2 legal free
-may_write fs grants es file (Named id) legal stale free = let_in_named fs grants es file 1 id legal stale
+may_write fs grants es caller file Zeros legal stands stale free = free_for fs grants es file 2 legal free
+may_write fs grants es caller file Ones legal stands stale free = free_for fs grants es file 2 legal free
+may_write fs grants es caller file (Named id) legal stands stale free = let_in_named fs grants es caller file 1 id legal stands stale
 
-may_read : (fs : ℕ) (grants : Bool) (es : Past) (file : ℕ) (stateid : StateRef) → IsLegal fs grants es → stale_stop (seen fs grants es) file stateid 1 ≡ None
-    → read_denied (seen fs grants es) file stateid ≡ false → MayRead es file stateid
+may_read : (fs : ℕ) (grants : Bool) (es : Past) (caller : Option Party) (file : ℕ) (stateid : StateRef) → IsLegal fs grants es
+    → unresolved_stop (seen fs grants es) caller stateid ≡ None → stale_stop (seen fs grants es) file stateid 1 ≡ None
+    → read_denied (seen fs grants es) file stateid ≡ false → MayRead es caller file stateid
 unfolding read_denied
-may_read fs grants es file Zeros legal stale free = free_for fs grants es file 1 legal free
-may_read fs grants es file Ones legal stale free = tt
-may_read fs grants es file (Named id) legal stale free = let_in_named fs grants es file 0 id legal stale
+may_read fs grants es caller file Zeros legal stands stale free = free_for fs grants es file 1 legal free
+may_read fs grants es caller file Ones legal stands stale free = tt
+may_read fs grants es caller file (Named id) legal stands stale free = let_in_named fs grants es caller file 0 id legal stands stale
 
 pub reads-seen : (fs : ℕ) (grants : Bool) (es : Past) (call : Call) (verdict : Verdict) (args : ReadArgs) (ok : ReadOk) → IsLegal fs grants es
-    → call.deed ≡ deed.Read args → (answer_to (seen fs grants es) (Asked call verdict)).value ≡ told.Read (Some ok) → MayRead es call.file args.stateid
+    → call.deed ≡ deed.Read args → (answer_to (seen fs grants es) (Asked call verdict)).value ≡ told.Read (Some ok) → MayRead es call.caller call.file args.stateid
 unfolding read_checks
 reads-seen fs grants es call verdict args ok legal its it =
     let free : IsFree (read_checks (seen fs grants es) call.caller call.file args verdict) = all_free _ (read_goes (seen fs grants es) call verdict args ok its it) in
-    may_read fs grants es call.file args.stateid legal free.stale (refuse_if-none _ Locked free.conflict)
+    may_read fs grants es call.caller call.file args.stateid legal free.unresolved free.stale (refuse_if-none _ Locked free.conflict)
 
 pub writes-seen : (fs : ℕ) (grants : Bool) (es : Past) (call : Call) (verdict : Verdict) (args : WriteArgs) (ok : WriteOk) → IsLegal fs grants es
-    → call.deed ≡ deed.Write args → (answer_to (seen fs grants es) (Asked call verdict)).value ≡ told.Write (Some ok) → MayWrite es call.file args.stateid
+    → call.deed ≡ deed.Write args → (answer_to (seen fs grants es) (Asked call verdict)).value ≡ told.Write (Some ok) → MayWrite es call.caller call.file args.stateid
 unfolding write_checks
 writes-seen fs grants es call verdict args ok legal its it =
     let free : IsFree (write_checks (seen fs grants es) call.caller call.file args verdict) = all_free _ (write_goes (seen fs grants es) call verdict args ok its it) in
-    may_write fs grants es call.file args.stateid legal free.stale (refuse_if-none _ Locked free.conflict)
+    may_write fs grants es call.caller call.file args.stateid legal free.unresolved free.stale (refuse_if-none _ Locked free.conflict)
 
 pub sizes-seen : (fs : ℕ) (grants : Bool) (es : Past) (call : Call) (verdict : Verdict) (args : SetAttrArgs) (word : ℕ) (words : List ℕ) → IsLegal fs grants es
     → call.deed ≡ deed.SetAttr args → has_size args.attributes.words ≡ true → (answer_to (seen fs grants es) (Asked call verdict)).value ≡ told.SetAttr (word ∷ words)
-    → MayWrite es call.file args.stateid
+    → MayWrite es call.caller call.file args.stateid
 unfolding size_checks
 sizes-seen fs grants es call verdict args word words legal its sized it =
     let free : IsFree (size_checks (seen fs grants es) call.caller call.file args verdict) =
     all_free _ (size_goes (seen fs grants es) call verdict args word words its sized it) in
-    may_write fs grants es call.file args.stateid legal free.stale (refuse_if-none _ Locked free.conflict)
+    may_write fs grants es call.caller call.file args.stateid legal free.unresolved free.stale (refuse_if-none _ Locked free.conflict)

@@ -19,13 +19,14 @@ use Rattle.nm_rules.specs.Data.{write_checks, write_value, setattr_checks, size_
 use Rattle.nm_rules.specs.Files.{create_checks, create_value, dir_checks, file_checks}
 use Rattle.nm_rules.specs.LockOps.{lock_value, changed_lock}
 use Rattle.nm_rules.specs.Opens.{open_checks, open_value, target_at}
-use Rattle.nm_rules.specs.Past.{Past, Now, acts, now, words, deed_words, judgement, close_words, confirm_words, downgrade_words, open_tree, claimed_name, cuts, parent_of, set_tree, write_tree}
+use Rattle.nm_rules.specs.Past.{Past, Now, acts, now, words, deed_words, judgement, close_words, confirm_words, downgrade_words, open_tree, claimed_name, cuts, exclusive_verifier, parent_of, set_tree, write_tree}
 use Rattle.nm_rules.specs.Seen.{Seen, seen, look}
 use Rattle.nm_rules.specs.Seqids.{is_fresh}
 use Rattle.nm_rules.specs.Answer.{answer_to, reply_by, refused_value, ok_value, checks, IsLegal}
 use Rattle.nm_rules.specs.Sound.{IsSound, files_rise, names_apart, all_named_apart}
 use Rattle.nm_types.specs.declared.args.OpenArgs.{OpenArgs}
 use Rattle.nm_types.specs.declared.args.OpenType.{OpenType}
+use Rattle.nm_types.specs.declared.args.OpenType.TheVariants.{NoCreate, Unchecked, Guarded, Exclusive}
 use Rattle.nm_types.specs.declared.args.SetAttrArgs.{SetAttrArgs}
 use Rattle.nm_types.specs.declared.args.WriteArgs.{WriteArgs}
 use Rattle.nm_types.specs.declared.calls.Call.{Call}
@@ -37,6 +38,7 @@ use Rattle.nm_types.specs.declared.calls.Reply.{Reply}
 use Rattle.nm_types.specs.declared.calls.ReplyValue.TheVariants as told
 use Rattle.nm_types.specs.declared.calls.StateId.{StateId}
 use Rattle.nm_types.specs.declared.calls.Verdict.{Verdict}
+use Rattle.nm_types.specs.declared.rows.FileKind.TheVariants.{File}
 use Rattle.nm_types.specs.declared.rows.FileRow.{FileRow}
 use Rattle.nm_types.specs.declared.status.OpStatus.{OpStatus}
 use Rattle.nm_types.specs.declared.status.OpStatus.TheVariants.{Exist, Stale}
@@ -44,7 +46,7 @@ use Rattle.nm_rules.proofs.Classes.{IsFree, all_free, refuse_if-none}
 use Rattle.nm_rules.proofs.FileRows.{file_at-past}
 use Rattle.nm_rules.proofs.Legal.{claimed_is_target, free_is_fresh, repeat_is_old, words-free, words-old, words-refused, sound-seen, look-seen}
 use Rattle.nm_rules.proofs.Refusals.{by_refusal, lock_keeps, unlock_keeps, release_keeps}
-use Rattle.nm_laws.specs.TreeReadings.{NewFile, FileAct, open_act, deed_act, file_act, is_it}
+use Rattle.nm_laws.specs.TreeReadings.{NewFile, FileAct, open_act, verifier_of, deed_act, file_act, is_it}
 use Rattle.nm_laws.specs.TreeReadings.FileAct.{Spares, Adds, Alters, Takes}
 
 -- ---- what a word does
@@ -91,10 +93,18 @@ refused_spares n names s call verdict status =
     (value_spares names call.file) (λ args o b. either_spares b) (λ args o b. either_spares b) s call.caller call.file call.deed status
     (acts n call (reply_by s call (Some (Refuse status))))
 
+same_verifier : (opentype : OpenType) → verifier_of opentype ≡ exclusive_verifier opentype
+unfolding exclusive_verifier
+same_verifier NoCreate = refl
+same_verifier (Unchecked _) = refl
+same_verifier (Guarded _) = refl
+same_verifier (Exclusive verifier) = refl
+
 open_acts : (row : Option FileRow) (dir next : ℕ) (args : OpenArgs) (o : Option ℕ)
     → open_act dir args (unwrap_or o next) o ≡ act_by (open_tree row dir (claimed_name args.claim) args.opentype o (unwrap_or o next))
 unfolding open_tree
-open_acts row dir next args None = refl
+open_acts row dir next args None =
+    ap (λ v. Adds (record { number = next; dir = dir; name = unwrap_or (claimed_name args.claim) []; kind = File; verifier = v })) (same_verifier args.opentype)
 open_acts row dir next args (Some child) = by_cut (cuts args.opentype)
   where
     by_cut : (c : Bool) → cond c (Alters child) Spares ≡ act_by (cond c (Edited (parent_of row) child (Set (Some 0) None)) Untouched)

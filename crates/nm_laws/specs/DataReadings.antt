@@ -65,9 +65,11 @@ abbrev pub Permits : Option Share → ℕ → Type 0
 Permits None access = Unit {0}
 Permits (Some share) access = meets access share.deny ≡ false
 
--- The stateid stands for the open of an owner who has the file open with that access, and no other owner denies it.
-pub record IsLetIn (es : Past) (counter file access : ℕ) : Type 0 where
+-- The stateid stands for the open of an owner of the caller's own instance, who has the file open with that access, and no other owner
+-- denies it.
+pub record IsLetIn (es : Past) (caller : Option Party) (counter file access : ℕ) : Type 0 where
   pub owner : Owner
+  pub own : caller ≡ Some owner.instance
   pub its : opener_of es counter ≡ Some owner
   pub can : HasAccess (share_of es owner file) access
   pub others : (other : Owner) → owner ≢ other → Permits (share_of es other file) access
@@ -77,13 +79,13 @@ abbrev pub IsFreeFor : Past → ℕ → ℕ → Type 0
 IsFreeFor es file access = (owner : Owner) → Permits (share_of es owner file) access
 
 -- The stateid of all zeros is let in where nobody denies it, and that of all ones reads past denies.
-abbrev pub MayRead : Past → ℕ → StateRef → Type 0
-MayRead es file Zeros = IsFreeFor es file 1
-MayRead es file Ones = Unit {0}
-MayRead es file (Named id) = IsLetIn es id.counter file 1
+abbrev pub MayRead : Past → Option Party → ℕ → StateRef → Type 0
+MayRead es caller file Zeros = IsFreeFor es file 1
+MayRead es caller file Ones = Unit {0}
+MayRead es caller file (Named id) = IsLetIn es caller id.counter file 1
 
 -- Neither of them writes past denies.
-abbrev pub MayWrite : Past → ℕ → StateRef → Type 0
-MayWrite es file Zeros = IsFreeFor es file 2
-MayWrite es file Ones = IsFreeFor es file 2
-MayWrite es file (Named id) = IsLetIn es id.counter file 2
+abbrev pub MayWrite : Past → Option Party → ℕ → StateRef → Type 0
+MayWrite es caller file Zeros = IsFreeFor es file 2
+MayWrite es caller file Ones = IsFreeFor es file 2
+MayWrite es caller file (Named id) = IsLetIn es caller id.counter file 2

@@ -4,3 +4,4 @@ pub mod DataReadings
 pub mod StateidNow
 pub mod StateidRows
 pub mod TreeReadings
+pub mod RowsLeft

@@ -4,8 +4,10 @@ use Rattle.std.specs.Prelude.{ℕ, ◌+◌, ◌==◌, ◌&&◌, ◌||◌, Bool, 
 use Rattle.std.specs.Str.{bytes_eq}
 use Rattle.nm_rules.specs.Lists.{is_empty}
 use Rattle.nm_rules.specs.FileReadings.{dir_of}
-use Rattle.nm_rules.specs.Past.{Past, Now, now, acts, claimed_in, claimed_name, cuts, exclusive_verifier}
+use Rattle.nm_rules.specs.Past.{Past, Now, now, acts, claimed_in, claimed_name, cuts}
 use Rattle.nm_types.specs.declared.args.OpenArgs.{OpenArgs}
+use Rattle.nm_types.specs.declared.args.OpenType.{OpenType}
+use Rattle.nm_types.specs.declared.args.OpenType.TheVariants.{NoCreate, Unchecked, Guarded, Exclusive}
 use Rattle.nm_types.specs.declared.calls.Deed.{Deed}
 use Rattle.nm_types.specs.declared.calls.Deed.TheVariants as deed
 use Rattle.nm_types.specs.declared.calls.Event.{Event}
@@ -35,6 +37,13 @@ pub data FileAct : Type 0 where
   -- from that directory that name goes
   Takes : ℕ → List ℕ → FileAct
 
+-- An EXCLUSIVE OPEN names a verifier, and leaves it with the file that it makes (RFC 7530, 16.16).
+abbrev pub verifier_of : OpenType → Option ℕ
+verifier_of NoCreate = None
+verifier_of (Unchecked _) = None
+verifier_of (Guarded _) = None
+verifier_of (Exclusive verifier) = Some verifier
+
 -- An OPEN that acted makes the file that its name missed, and an UNCHECKED one with size 0 changes one that is there.
 abbrev pub open_act : ℕ → OpenArgs → ℕ → Option ℕ → FileAct
 open_act dir args number None = Adds (record {
@@ -42,7 +51,7 @@ open_act dir args number None = Adds (record {
   dir = dir;
   name = unwrap_or (claimed_name args.claim) [];
   kind = File;
-  verifier = exclusive_verifier args.opentype;
+  verifier = verifier_of args.opentype;
 })
 open_act dir args number (Some file) = if cuts args.opentype then Alters file else Spares
 

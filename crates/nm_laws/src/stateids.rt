@@ -55,10 +55,12 @@ pub fn lock_stateids_have_their_opens()
         → all_are_opened (seen fs grants es).opens (seen fs grants es).locks ≡ true }
 {}
 
-/// No counter is both an open's and a lock owner's, and the table of what is held rises by counter: each row has a counter of its
-/// own (RFC 7530, 9.1.4.2).
+/// No counter is both an open's and a lock owner's, be the open live or closed, and the table of what is held rises by counter: each row
+/// has a counter of its own (RFC 7530, 9.1.4.2).
 pub fn counters_stand_once()
     ensures once { (fs : ℕ) (grants : Bool) (es : Past) → IsLegal fs grants es
         → (k : ℕ) → is_one k (seen fs grants es).opens (seen fs grants es).locks ≡ true }
+    ensures closed { (fs : ℕ) (grants : Bool) (es : Past) → IsLegal fs grants es
+        → (k : ℕ) → is_one k (seen fs grants es).closed (seen fs grants es).locks ≡ true }
     ensures rising { (fs : ℕ) (grants : Bool) (es : Past) → IsLegal fs grants es → held_rises 0 (held_table (seen fs grants es)) ≡ true }
 {}
