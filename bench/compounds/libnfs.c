@@ -1,6 +1,6 @@
 /* Makes the arguments and the results of three compounds each with the codec of libnfs, and times how it decodes and encodes
    them.
-   usage: libnfs FILE      (FILE: where they are written, for the other program) */
+   usage: libnfs FILE [N]    (FILE: where they are written, for the other program; N: the rounds are one Nth) */
 #include <stdio.h>
 #include <stdlib.h>
 #include <string.h>
@@ -11,7 +11,8 @@
 #include <nfsc/libnfs-raw.h>
 #include <nfsc/libnfs-raw-nfs4.h>
 
-#define RUNS 5
+#define RUNS 3
+static uint32_t part = 1;
 static char encoded[1 << 17];
 static char payload[65536];
 static uint32_t words[2] = {0, 2};
@@ -64,32 +65,42 @@ static void put(FILE *file, uint32_t n) {
     fwrite(b, 1, 4, file);
 }
 
+/* The middle of three runs, the least and the greatest. */
+static void line(const char *name, double *took, uint32_t rounds) {
+    double least = took[0], most = took[0], sum = 0;
+    for (int run = 0; run < RUNS; run++) {
+        if (took[run] < least) least = took[run];
+        if (took[run] > most) most = took[run];
+        sum += took[run];
+    }
+    printf("  %s: %.0f ns (%.0f to %.0f)\n", name, (sum - least - most) / rounds, least / rounds, most / rounds);
+}
+
 static void time_one(FILE *file, enum kind kind, void *value, uint32_t rounds) {
+    rounds /= part;
     int len = encode(kind, value, encoded, sizeof encoded);
     put(file, kind);
     put(file, rounds);
     put(file, len);
     fwrite(encoded, 1, len, file);
-    double best[2] = {1e18, 1e18};
+    double took[2][RUNS];
     unsigned long sum = 0;
     for (int run = 0; run < RUNS; run++) {
         double start = now();
         for (uint32_t i = 0; i < rounds; i++)
             sum += kind == ARGS ? decode_args(len) : decode_results(len);
-        double took = now() - start;
-        if (took < best[0]) best[0] = took;
+        took[0][run] = now() - start;
         start = now();
         for (uint32_t i = 0; i < rounds; i++) {
             char *to = malloc(len);
             sum += encode(kind, value, to, len);
             free(to);
         }
-        took = now() - start;
-        if (took < best[1]) best[1] = took;
+        took[1][run] = now() - start;
     }
     printf("%d bytes\n", len);
-    printf("  read: %.0f ns, %.0f a second\n", best[0] / rounds, rounds * 1e9 / best[0]);
-    printf("  written: %.0f ns, %.0f a second\n", best[1] / rounds, rounds * 1e9 / best[1]);
+    line("read", took[0], rounds);
+    line("written", took[1], rounds);
     fprintf(stderr, "%lu\n", sum);
 }
 
@@ -166,6 +177,25 @@ static void all_args(FILE *file) {
     time_args(file, ops, 2, 5000);
 }
 
+/* What reading or writing so much data can't do without. */
+static void time_copy(uint32_t rounds) {
+    double took[RUNS];
+    unsigned long sum = 0;
+    for (int run = 0; run < RUNS; run++) {
+        double start = now();
+        for (uint32_t i = 0; i < rounds; i++) {
+            char *volatile to = malloc(sizeof payload);
+            memcpy(to, payload, sizeof payload);
+            sum += to[i % sizeof payload];
+            free(to);
+        }
+        took[run] = now() - start;
+    }
+    printf("one malloc and copy of 64 KiB\n");
+    line("copied", took, rounds);
+    fprintf(stderr, "%lu\n", sum);
+}
+
 /* Every result is OK. */
 static void all_results(FILE *file) {
     nfs_resop4 ops[4];
@@ -212,9 +242,11 @@ static void all_results(FILE *file) {
 }
 
 int main(int argc, char **argv) {
-    FILE *file = argc == 2 ? fopen(argv[1], "wb") : NULL;
+    FILE *file = argc == 2 || argc == 3 ? fopen(argv[1], "wb") : NULL;
     if (!file) return 2;
+    if (argc == 3) part = atoi(argv[2]);
     all_args(file);
     all_results(file);
+    time_copy(5000);
     return fclose(file) ? 1 : 0;
 }
